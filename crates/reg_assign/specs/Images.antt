@@ -19,6 +19,7 @@ use Rattle.low_ir.specs.Counting.{any_calls}
 use Rattle.low_ir.specs.Prices.{low_price}
 use Rattle.low_ir.specs.Run.{Setting as LowSetting, LowState, LowShown, low_machine, low_start}
 use Rattle.assembler.specs.Assembled.{item_address, IsImageOf}
+use Rattle.rv_select.specs.declared.convention.TheConstants.{STACK_POINTER, STACK_END, ALLOCATION, REGION_END}
 use Rattle.rv_select.specs.declared.code.Place.{Place}
 use Rattle.rv_select.specs.Prices.{start_price}
 use Rattle.rv_select.specs.Select.{select_items, registers_of}
@@ -40,7 +41,7 @@ words_setting procs told s = record {
   address = told;
   labels = s.layout.labels;
   region = s.layout.region;
-  top = s.regs 25;
+  top = s.regs STACK_END;
 }
 
 -- the machine's state has the region that the run over words shows: the memory below the allocation word, which is x26;
@@ -48,19 +49,19 @@ words_setting procs told s = record {
 -- bytes than frames have that hold all words of the active procedures
 pub record HasRegionOf (region_end : ℕ) (s : State) (l : LowShown) : Type 0 where
   pub memory : (at : ℕ) → at < l.alloc → s.memory at ≡ l.memory at
-  pub alloc : s.regs 26 ≡ l.alloc
+  pub alloc : s.regs ALLOCATION ≡ l.alloc
   pub inside : l.alloc ≤ region_end
-  pub stack : s.regs 25 ≡ region_end
-  pub top : s.regs 27 ≡ region_end
-  pub above : region_end ≤ s.regs 2
-  pub used : s.layout.end ≤ s.regs 2 + frames_size l.frames l.held
+  pub stack : s.regs STACK_END ≡ region_end
+  pub top : s.regs REGION_END ≡ region_end
+  pub above : region_end ≤ s.regs STACK_POINTER
+  pub used : s.layout.end ≤ s.regs STACK_POINTER + frames_size l.frames l.held
 
 -- from its start state on the machine follows a run over words of these procedures; it takes no more turns than the
 -- prices of the steps of that run add up to, and the price of the start
 pub record FollowsWords {V : Type 0} (reading : Halt → Ending V) (procs : List Proc) (Y : Machine LowState LowShown V)
     (start : LowState) (s : State) : Type 0 where
-  pub follows : FollowsBy (HasRegionOf (s.regs 25)) Any (run (machine_by reading) s) (run Y start)
-  pub turns : FollowsBy (OfRest (HasRegionOf (s.regs 25))) (Spends 1)
+  pub follows : FollowsBy (HasRegionOf (s.regs STACK_END)) Any (run (machine_by reading) s) (run Y start)
+  pub turns : FollowsBy (OfRest (HasRegionOf (s.regs STACK_END))) (Spends 1)
       (run (metered each_one (machine_by reading)) (unspent s))
       (run (metered (low_price procs) Y) (record { spent = start_price; rest = start }))
   pub never_wrong : NeverWrong (run (machine_by reading) s)
@@ -110,7 +111,7 @@ pub record ExceedsStack (procs : List Proc) (room : ℕ) (s : State) (l : LowSho
   pub number : ℕ
   pub proc : Proc
   pub there : slice_get procs number ≡ Some proc
-  pub left : s.regs 2 < s.regs 25 + frame_size proc.words
+  pub left : s.regs STACK_POINTER < s.regs STACK_END + frame_size proc.words
 
 -- Where the run over words never goes wrong, and its procedures make no environment call 6: if the machine has stopped
 -- in a state for want of stack, that run, with no bound on its stack, has printed the same at some moment at which it

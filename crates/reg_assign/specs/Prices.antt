@@ -1,5 +1,6 @@
 -- How many real items an item becomes, and that with places it becomes no more than with a slot for each register.
 use Rattle.std.specs.Prelude.{ℕ, ◌+◌, ◌%◌, ◌^◌, ◌==◌, ◌≡◌, nat_lt, if◌then◌else◌, true}
+use Rattle.rv_select.specs.declared.convention.TheConstants.{ALLOCATION}
 use Rattle.rv_select.specs.declared.code.VReg.{VReg}
 use Rattle.rv_select.specs.declared.code.VReg.TheVariants.{Real, Virtual}
 use Rattle.rv_select.specs.declared.code.VirtualItem.{VirtualItem}
@@ -25,12 +26,13 @@ register_price first (Real r) = 0
 register_price first (Virtual v) = reach (slot_offset first v)
 
 abbrev pub constant_price : ℕ → VReg → ℕ → ℕ
-constant_price first (Real r) word = if r == 26 then word_price word + 1 else word_price word
+constant_price first (Real r) word = if r == ALLOCATION then word_price word + 1 else word_price word
 constant_price first (Virtual v) word = word_price word + reach (slot_offset first v)
 
 abbrev pub move_price : ℕ → VReg → VReg → ℕ
 move_price first (Real r) (Real a) = if r == a then 0 else 1
-move_price first (Real r) (Virtual v) = if r == 26 then reach (slot_offset first v) + 1 else reach (slot_offset first v)
+move_price first (Real r) (Virtual v) =
+    if r == ALLOCATION then reach (slot_offset first v) + 1 else reach (slot_offset first v)
 move_price first (Virtual v) (Real a) = reach (slot_offset first v)
 move_price first (Virtual v) (Virtual u) = reach (slot_offset first u) + reach (slot_offset first v)
 

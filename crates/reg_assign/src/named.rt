@@ -7,6 +7,7 @@ ghost use Rattle.reg_assign.specs.Flow.{IsTold, mark_of};
 
 use rv_isa::number::Reg;
 use rv_select::code::{VReg, VirtualItem};
+use rv_select::convention::{ANSWER, CALL_NUMBER, FIRST_ARGUMENT, SECOND_ARGUMENT};
 
 // How many numbers real registers have, that of those beyond x31 among them.
 pub(crate) const REAL_NUMBERS: usize = 33;
@@ -84,7 +85,7 @@ pub(crate) fn reads(item: &VirtualItem) -> Read
         VirtualItem::TailCall(_, n) => handing(None, *n),
         VirtualItem::TailCallAt(f, n) => handing(Some(*f), *n),
         VirtualItem::Return => handing(None, 1),
-        VirtualItem::Environment => handing(Some(real(17)), 2),
+        VirtualItem::Environment => handing(Some(real(CALL_NUMBER)), 2),
         _ => two(None, None),
     }
 }
@@ -100,12 +101,12 @@ pub(crate) fn writes(item: &VirtualItem) -> Written
         VirtualItem::ComputeWith(_, rd, _, _) => Some(*rd),
         VirtualItem::Load(rd, _, _) => Some(*rd),
         VirtualItem::CodeOf(rd, _) => Some(*rd),
-        VirtualItem::Call(_, _) => Some(real(10)),
-        VirtualItem::CallAt(_, _) => Some(real(10)),
+        VirtualItem::Call(_, _) => Some(real(ANSWER)),
+        VirtualItem::CallAt(_, _) => Some(real(ANSWER)),
         VirtualItem::Environment => {
             return Written {
-                first: Some(real(10)),
-                second: Some(real(11)),
+                first: Some(real(FIRST_ARGUMENT)),
+                second: Some(real(SECOND_ARGUMENT)),
             };
         }
         _ => None,

@@ -12,6 +12,9 @@ use Rattle.low_ir.specs.Steps.{may_store, store_words}
 use Rattle.low_ir.specs.declared.code.LowSource.{LowSource}
 use Rattle.low_ir.specs.Procedures.{Code, Build, Request, Take}
 use Rattle.low_ir.specs.Run.{LowState, word_of, words_of, and_more, with_local, sets, code_step, finds_no_room}
+use Rattle.rv_select.specs.declared.convention.TheConstants.{FIRST_SCRATCH, SECOND_SCRATCH, THIRD_SCRATCH}
+use Rattle.rv_select.specs.declared.convention.TheConstants.{FIRST_ARGUMENT, SECOND_ARGUMENT, CALL_NUMBER, STACK_END}
+use Rattle.rv_select.specs.declared.convention.TheConstants.{ALLOCATION, REGION_END, REGION_OUT_CALL}
 use Rattle.rv_select.specs.declared.code.VReg.TheVariants.{Real, Virtual}
 use Rattle.rv_select.specs.declared.code.VirtualItem.{VirtualItem}
 use Rattle.rv_select.specs.declared.code.VirtualItem.TheVariants.{Constant, Move, Compute, ComputeWith, Store, Mark}
@@ -55,11 +58,11 @@ module _ {V : Type 0} (program : Program V) where
       let purse : ℕ = purse_of program s (Take a rest) in
       let f : Found = t.active.found in
       let first : ℕ = f.first in
-      let shift : VirtualItem = ComputeWith Sll (Real 5) (source_reg first 7 a) 3 in
+      let shift : VirtualItem = ComputeWith Sll (Real FIRST_SCRATCH) (source_reg first THIRD_SCRATCH a) 3 in
       let left : ℕ = item_price (setting program) f shift + (1 + owed s.waiting) in
-      let tail : List VirtualItem = ComputeWith Sll (Real 5) (source_reg first 7 a) 3
-      ∷ Compute Add (Real 26) (Real 26) (Real 5) ∷ items_of program s t on rest in
-      let pc : ℕ = beyond (source_items 7 a) t.pc in
+      let tail : List VirtualItem = ComputeWith Sll (Real FIRST_SCRATCH) (source_reg first THIRD_SCRATCH a) 3
+      ∷ Compute Add (Real ALLOCATION) (Real ALLOCATION) (Real FIRST_SCRATCH) ∷ items_of program s t on rest in
+      let pc : ℕ = beyond (source_items THIRD_SCRATCH a) t.pc in
       sim_given program purse s s t (word_of s.active.locals a) _ (λ n ae.
       sim_if program purse s (popped program s rest) t (nat_le (s.alloc + 8 * n) program.low.top) _ (λ h.
       let s1 : LowState = record s {
@@ -69,9 +72,9 @@ module _ {V : Type 0} (program : Program V) where
       } in (
         fetches a 2,
         inl (let z = fetches_ge a 2 in omega (arith, z)),
-        prices (setting program) f (source_items 7 a) left,
-        (let p = source_paid (setting program) f 7 a left in omega (arith, p)),
-        fetch program.reading (setting program) (Way program s s1) (At program s1) s.active.locals 7 (
+        prices (setting program) f (source_items THIRD_SCRATCH a) left,
+        (let p = source_paid (setting program) f THIRD_SCRATCH a left in omega (arith, p)),
+        fetch program.reading (setting program) (Way program s s1) (At program s1) s.active.locals THIRD_SCRATCH (
           refl,
           refl,
           refl,
@@ -79,16 +82,17 @@ module _ {V : Type 0} (program : Program V) where
         ) a n t tail 2 left ae on.active.locals lies.stands (way_first program s s1 t on.body) (λ regs known kept va.
             let u : VirtualState = record t { regs = regs; known = known; pc = pc } in
             let here : ItemsOn program s t on pc tail =
-            past program t.active.found on.active.out t.pc (source_items 7 a) tail s.active.rests lies in
-            let t2 : VirtualState = wrote_real 5 (n * 8 % 2 ^ 64) u in
-            let t3 : VirtualState = wrote_real 26 ((regs 26 + n * 8 % 2 ^ 64) % 2 ^ 64) t2 in
+            past program t.active.found on.active.out t.pc (source_items THIRD_SCRATCH a) tail s.active.rests lies in
+            let t2 : VirtualState = wrote_real FIRST_SCRATCH (n * 8 % 2 ^ 64) u in
+            let t3 : VirtualState = wrote_real ALLOCATION ((regs ALLOCATION + n * 8 % 2 ^ 64) % 2 ^ 64) t2 in
             let body : Body program s u = body_regs program s t regs known pc on.body
             (kept_fixed kept refl refl refl) in
             does_item program.reading (setting program) (Way program s s1) (At program s1) 1 (1 + owed s.waiting) u t2
             shift here.stands.0 (given_is u _ n _ va)
             (way_first program s s1 u body) (
             does_item program.reading (setting program) (Way program s s1) (At program s1) 0 (owed s.waiting) t2 t3
-            (Compute Add (Real 26) (Real 26) (Real 5)) here.stands.1.0 refl (way_first program s s1 t2 body) (
+            (Compute Add (Real ALLOCATION) (Real ALLOCATION) (Real FIRST_SCRATCH)) here.stands.1.0 refl
+              (way_first program s s1 t2 body) (
               record {
                 active = active_same program s t on rest t3.pc (record {
                   stands = here.stands.1.1;
@@ -123,18 +127,19 @@ module _ {V : Type 0} (program : Program V) where
         let P : VirtualState → Type 0 = Way program s s1 in
         let Q : ℕ → VirtualState → Type 0 = Ends program s s1 (program.reading (Lacks Region)) in
         let t5 : VirtualState = record t { pc = suc t.pc } in
-        let t51 : VirtualState = wrote_real 10 0 t5 in
-        let t52 : VirtualState = wrote_real 11 0 t51 in
-        let t6 : VirtualState = wrote_real 17 5 t52 in
+        let t51 : VirtualState = wrote_real FIRST_ARGUMENT 0 t5 in
+        let t52 : VirtualState = wrote_real SECOND_ARGUMENT 0 t51 in
+        let t6 : VirtualState = wrote_real CALL_NUMBER REGION_OUT_CALL t52 in
         let here : Here program t.pc (out_items out) = subst (λ p. Here program p (out_items out))
         (sym e) homed.room.2 in
         does_item program.reading (setting program) P Q 3 7 t t5 (Mark out) here.0 refl
         (way_second program s s1 t body) (
-        does_item program.reading (setting program) P Q 2 5 t5 t51 (Constant (Real 10) 0) here.1.0 refl
+        does_item program.reading (setting program) P Q 2 5 t5 t51 (Constant (Real FIRST_ARGUMENT) 0) here.1.0 refl
         (way_second program s s1 t5 body) (
-        does_item program.reading (setting program) P Q 1 3 t51 t52 (Constant (Real 11) 0) here.1.1.0 refl
+        does_item program.reading (setting program) P Q 1 3 t51 t52 (Constant (Real SECOND_ARGUMENT) 0) here.1.1.0 refl
         (way_second program s s1 t51 body) (
-        does_item program.reading (setting program) P Q 0 1 t52 t6 (Constant (Real 17) 5) here.1.1.1.0 refl
+        does_item program.reading (setting program) P Q 0 1 t52 t6 (Constant (Real CALL_NUMBER) REGION_OUT_CALL)
+          here.1.1.1.0 refl
         (way_second program s s1 t52 body) (
           (
             way_second program s s1 t6 body,
@@ -167,47 +172,49 @@ module _ {V : Type 0} (program : Program V) where
       first = f.first
 
       test : VirtualItem
-      test = Branch Ltu (Real 5) (source_reg first 7 a) on.active.out
+      test = Branch Ltu (Real FIRST_SCRATCH) (source_reg first THIRD_SCRATCH a) on.active.out
 
       put : VirtualItem
-      put = Move (Virtual (first + d)) (Real 26)
+      put = Move (Virtual (first + d)) (Real ALLOCATION)
 
       pc : ℕ
-      pc = beyond (source_items 7 a) t.pc
+      pc = beyond (source_items THIRD_SCRATCH a) t.pc
 
       tail : List VirtualItem
-      tail = Compute Sub (Real 5) (Real 27) (Real 26) ∷ ComputeWith Srl (Real 5) (Real 5) 3
-          ∷ Branch Ltu (Real 5) (source_reg first 7 a) on.active.out ∷ Move (Virtual (first + d)) (Real 26)
+      tail = Compute Sub (Real FIRST_SCRATCH) (Real REGION_END) (Real ALLOCATION)
+        ∷ ComputeWith Srl (Real FIRST_SCRATCH) (Real FIRST_SCRATCH) 3
+          ∷ Branch Ltu (Real FIRST_SCRATCH) (source_reg first THIRD_SCRATCH a) on.active.out
+            ∷ Move (Virtual (first + d)) (Real ALLOCATION)
           ∷ items_of program s t on rest
 
       here : ItemsOn program s t on pc tail
-      here = past program t.active.found on.active.out t.pc (source_items 7 a) tail s.active.rests lies
+      here = past program t.active.found on.active.out t.pc (source_items THIRD_SCRATCH a) tail s.active.rests lies
 
       free : Registers → ℕ
-      free regs = (regs 27 + (2 ^ 64 - regs 26)) % 2 ^ 64
+      free regs = (regs REGION_END + (2 ^ 64 - regs ALLOCATION)) % 2 ^ 64
 
       free_is : (regs : Registers) → SameFixed regs t.regs → free regs ≡ (program.low.top + (2 ^ 64 - s.alloc)) % 2 ^ 64
-      free_is regs h = ap (λ x. (x + (2 ^ 64 - regs 26)) % 2 ^ 64) (h.top ∙ on.body.4)
+      free_is regs h = ap (λ x. (x + (2 ^ 64 - regs ALLOCATION)) % 2 ^ 64) (h.top ∙ on.body.4)
           ∙ ap (λ x. (program.low.top + (2 ^ 64 - x)) % 2 ^ 64) (h.alloc ∙ on.body.1)
 
       u0 : Registers → (ℕ → Bool) → VirtualState
       u0 regs known = record t { regs = regs; known = known; pc = pc }
 
       u1 : Registers → (ℕ → Bool) → VirtualState
-      u1 regs known = wrote_real 5 (free regs) (u0 regs known)
+      u1 regs known = wrote_real FIRST_SCRATCH (free regs) (u0 regs known)
 
       u3 : Registers → (ℕ → Bool) → VirtualState
-      u3 regs known = wrote_real 5 (free regs / 8) (u1 regs known)
+      u3 regs known = wrote_real FIRST_SCRATCH (free regs / 8) (u1 regs known)
 
       -- the source, three items, then what the branch comes to
       tested : (n : ℕ) → word_of s.active.locals a ≡ Some n → (s1 : LowState) (Q : ℕ → VirtualState → Type 0)
           (k left : ℕ) → ((regs : Registers) (known : ℕ → Bool) → SameFixed regs t.regs
-          → value (u3 regs known) (source_reg first 7 a) ≡ Some n
+          → value (u3 regs known) (source_reg first THIRD_SCRATCH a) ≡ Some n
           → PaidWay program.reading (setting program) (Way program s s1) Q k left (u3 regs known))
           → PaidWay program.reading (setting program) (Way program s s1) Q (fetches a (suc (suc k)))
-          (prices (setting program) f (source_items 7 a) (1 + (1 + left))) t
+          (prices (setting program) f (source_items THIRD_SCRATCH a) (1 + (1 + left))) t
       tested n e s1 Q k left r =
-          fetch program.reading (setting program) (Way program s s1) Q s.active.locals 7 (
+          fetch program.reading (setting program) (Way program s s1) Q s.active.locals THIRD_SCRATCH (
             refl,
             refl,
             refl,
@@ -216,20 +223,22 @@ module _ {V : Type 0} (program : Program V) where
           (λ regs known kept va.
           let body : Body program s (u0 regs known) = body_regs program s t regs known pc on.body
           (kept_fixed kept refl refl refl) in
-          let v1 : value (u1 regs known) (source_reg first 7 a) ≡ Some n =
-          wrote_kept (u0 regs known) 5 (free regs) (source_reg first 7 a) n (source_apart first 7 5 a refl refl)
+          let v1 : value (u1 regs known) (source_reg first THIRD_SCRATCH a) ≡ Some n =
+          wrote_kept (u0 regs known) FIRST_SCRATCH (free regs) (source_reg first THIRD_SCRATCH a) n
+            (source_apart first THIRD_SCRATCH FIRST_SCRATCH a refl refl)
           va in
           does_item program.reading (setting program) (Way program s s1) Q (suc k)
           (1 + left) (u0 regs known) (u1 regs known)
-          (Compute Sub (Real 5) (Real 27) (Real 26)) here.stands.0 refl
+          (Compute Sub (Real FIRST_SCRATCH) (Real REGION_END) (Real ALLOCATION)) here.stands.0 refl
           (way_first program s s1 (u0 regs known) body) (
           does_item program.reading (setting program) (Way program s s1) Q k left (u1 regs known) (u3 regs known)
-          (ComputeWith Srl (Real 5) (Real 5) 3) here.stands.1.0 refl
+          (ComputeWith Srl (Real FIRST_SCRATCH) (Real FIRST_SCRATCH) 3) here.stands.1.0 refl
           (way_first program s s1 (u1 regs known) body) (
-          r regs known (kept_fixed kept refl refl refl) (wrote_kept (u1 regs known) 5 (free regs / 8)
-          (source_reg first 7 a) n (source_apart first 7 5 a refl refl) v1))))
+          r regs known (kept_fixed kept refl refl refl) (wrote_kept (u1 regs known) FIRST_SCRATCH (free regs / 8)
+          (source_reg first THIRD_SCRATCH a) n (source_apart first THIRD_SCRATCH FIRST_SCRATCH a refl refl) v1))))
 
-      branched : (regs : Registers) (known : ℕ → Bool) (n : ℕ) → value (u3 regs known) (source_reg first 7 a) ≡ Some n
+      branched : (regs : Registers) (known : ℕ → Bool) (n : ℕ)
+        → value (u3 regs known) (source_reg first THIRD_SCRATCH a) ≡ Some n
           → (b : Bool) → nat_lt (free regs / 8) n ≡ b
           → item_step program.reading (setting program) test (u3 regs known)
           ≡ branch program.reading (setting program) b on.active.out (u3 regs known)
@@ -247,8 +256,8 @@ module _ {V : Type 0} (program : Program V) where
           in (
             fetches a 4,
             inl (let z = fetches_ge a 4 in omega (arith, z)),
-            prices (setting program) f (source_items 7 a) (1 + (1 + left)),
-            (let p = source_paid (setting program) f 7 a (1 + (1 + left)) in
+            prices (setting program) f (source_items THIRD_SCRATCH a) (1 + (1 + left)),
+            (let p = source_paid (setting program) f THIRD_SCRATCH a (1 + (1 + left)) in
                 let q = own_slot first d in omega (arith, p, q)),
             tested n e s1 (At program s1) 2 left (λ regs known same va.
                 let t3 : VirtualState = u3 regs known in
@@ -263,7 +272,7 @@ module _ {V : Type 0} (program : Program V) where
                 here.stands.1.1.0 (branched regs known n va false lt) (way_first program s s1 t3 body) (
                 does_item program.reading (setting program) (Way program s s1) (At program s1) 0
                 (owed s.waiting) t4 t5 put here.stands.1.1.1.0
-                (move_local program.reading (setting program) t4 (first + d) (Real 26) s.alloc
+                (move_local program.reading (setting program) t4 (first + d) (Real ALLOCATION) s.alloc
                 (ap Some body.1) (mine program s t on d m))
                 (way_first program s s1 t4 body) (
                   record {
@@ -285,8 +294,8 @@ module _ {V : Type 0} (program : Program V) where
           let left : ℕ = item_price (setting program) f test + 7 in
           unless (program.reading (Lacks Region)) (
             fetches a 7,
-            prices (setting program) f (source_items 7 a) (1 + (1 + left)),
-            (let p = source_paid (setting program) f 7 a (1 + (1 + left)) in
+            prices (setting program) f (source_items THIRD_SCRATCH a) (1 + (1 + left)),
+            (let p = source_paid (setting program) f THIRD_SCRATCH a (1 + (1 + left)) in
                 let q = end_is_owed s.waiting in omega (arith, p, q)),
             tested n e s1 (Ends program s s1 (program.reading (Lacks Region))) 5 left (λ regs known same va.
                 let t3 : VirtualState = u3 regs known in
@@ -339,11 +348,13 @@ module _ {V : Type 0} (program : Program V) where
         → words_of s.active.locals args ≡ Some ws
         → ((i : ℕ) → u.active.locals (u.active.found.first + i) ≡ s.active.locals i) → offset % 8 ≡ 0
         → s.alloc + offset + 8 * length ws ≤ program.low.top → SeenAs program s u
-        → Here program u.pc (stores_items u.active.found.first offset args ++ rest) → value u (Real 6) ≡ Some z
+        → Here program u.pc (stores_items u.active.found.first offset args ++ rest)
+          → value u (Real SECOND_SCRATCH) ≡ Some z
         → ((regs : Registers) (known : ℕ → Bool) (pc : ℕ) → SameFixed regs u.regs
         → pc ≡ beyond (stores_items u.active.found.first offset args) u.pc
         → SeenAs program s (record u { regs = regs; known = known; pc = pc; memory = store_words ws at u.memory })
-        → value (record u { regs = regs; known = known; pc = pc; memory = store_words ws at u.memory }) (Real 6)
+        → value (record u { regs = regs; known = known; pc = pc; memory = store_words ws at u.memory })
+          (Real SECOND_SCRATCH)
         ≡ Some z → PaidWay program.reading (setting program) (Way program s s1) Q k left (record u {
           regs = regs;
           known = known;
@@ -358,18 +369,19 @@ module _ {V : Type 0} (program : Program V) where
     stored (a ∷ args) (w ∷ ws) offset at u ate e f o room sn stands v6 go =
         let first : ℕ = u.active.found.first in
         let later : List VirtualItem = stores_items first (offset + 8) args in
-        let item : VirtualItem = Store (source_reg first 5 a) (Real 26) offset in
-        let p : ℕ = beyond (source_items 5 a) u.pc in
+        let item : VirtualItem = Store (source_reg first FIRST_SCRATCH a) (Real ALLOCATION) offset in
+        let p : ℕ = beyond (source_items FIRST_SCRATCH a) u.pc in
         let both = words_split (word_of s.active.locals a) (words_of s.active.locals args) w ws e in
-        let split : Here program u.pc (source_items 5 a ++ (item ∷ (later ++ rest))) =
-        subst (Here program u.pc) (append_assoc (source_items 5 a) (item ∷ later) rest) stands in
+        let split : Here program u.pc (source_items FIRST_SCRATCH a ++ (item ∷ (later ++ rest))) =
+        subst (Here program u.pc) (append_assoc (source_items FIRST_SCRATCH a) (item ∷ later) rest) stands in
         let here : Here program p (item ∷ (later ++ rest)) =
-        stands_past program.reading (setting program) (source_items 5 a) (item ∷ (later ++ rest)) u.pc split in
+        stands_past program.reading (setting program) (source_items FIRST_SCRATCH a) (item
+          ∷ (later ++ rest)) u.pc split in
         let after : ℕ = prices (setting program) u.active.found later left in
         subst (λ n. PaidWay program.reading (setting program) (Way program s s1) Q (fetches a
         (suc (stores_more args k))) n u)
-        (sym (prices_append (setting program) u.active.found (source_items 5 a) (item ∷ later) left)) (
-        fetch program.reading (setting program) (Way program s s1) Q s.active.locals 5
+        (sym (prices_append (setting program) u.active.found (source_items FIRST_SCRATCH a) (item ∷ later) left)) (
+        fetch program.reading (setting program) (Way program s s1) Q s.active.locals FIRST_SCRATCH
         (refl, refl, refl, refl) a w u (item
         ∷ (later ++ rest)) (suc
         (stores_more args k)) (item_price (setting program) u.active.found item + after) both.0 f split
@@ -378,16 +390,17 @@ module _ {V : Type 0} (program : Program V) where
         let u2 : VirtualState = record u1 { memory = store_bytes 8 u.memory at w; pc = suc p } in
         let sn1 : SeenAs program s u1 = (
           sn.0,
-          kept.same 26 refl ∙ sn.1,
+          kept.same ALLOCATION refl ∙ sn.1,
           sn.2,
           sn.3,
           sn.4,
-          kept.same 25 refl ∙ sn.5,
-          kept.same 27 refl ∙ sn.6,
+          kept.same STACK_END refl ∙ sn.5,
+          kept.same REGION_END refl ∙ sn.6,
         ) in
-        let place : (regs 26 + offset) % 2 ^ 64 ≡ at = ap (λ x. (x + offset) % 2 ^ 64) sn1.1
+        let place : (regs ALLOCATION + offset) % 2 ^ 64 ≡ at = ap (λ x. (x + offset) % 2 ^ 64) sn1.1
         ∙ (at_word s.alloc offset (length ws) program.low.top room program.small ∙ sym ate) in
-        let v61 : value u1 (Real 6) ≡ Some z = kept_value u 5 regs known p kept (Real 6) z refl v6 in
+        let v61 : value u1 (Real SECOND_SCRATCH) ≡ Some z = kept_value u FIRST_SCRATCH regs known p kept
+          (Real SECOND_SCRATCH) z refl v6 in
         let sn2 : SeenAs program s u2 = (
           λ i h. stored_outside 8 u.memory at w i (inl (omega (arith, ate, h))) ∙ sn.0 i h,
           sn1.1,
@@ -405,7 +418,7 @@ module _ {V : Type 0} (program : Program V) where
         stored args ws (offset + 8) (at + 8) u2 (omega (arith, ate)) both.1 f (omega (arith, o))
         (omega (arith, room)) sn2 here.1 v61 (λ regs3 known3 pc3 same there sn3 v63.
         go regs3 known3 pc3 (also_fixed same (kept_fixed kept refl refl refl)) (there
-        ∙ sym (beyond_append (source_items 5 a) (item ∷ later) u.pc)) sn3 v63))))
+        ∙ sym (beyond_append (source_items FIRST_SCRATCH a) (item ∷ later) u.pc)) sn3 v63))))
 
   fits_bytes : (alloc n top : ℕ) → (nat_le (alloc + 8 * n) top) ≡ true → alloc ≤ top → top < 2 ^ 64
       → nat_lt ((top + (2 ^ 64 - alloc)) % 2 ^ 64) (8 * n % 2 ^ 64) ≡ false
@@ -438,13 +451,13 @@ module _ {V : Type 0} (program : Program V) where
       first = f.first
 
       size_item : VirtualItem
-      size_item = Constant (Real 6) (8 * length args)
+      size_item = Constant (Real SECOND_SCRATCH) (8 * length args)
 
       test : VirtualItem
-      test = Branch Ltu (Real 5) (Real 6) on.active.out
+      test = Branch Ltu (Real FIRST_SCRATCH) (Real SECOND_SCRATCH) on.active.out
 
       put : VirtualItem
-      put = Move (Virtual (first + d)) (Real 26)
+      put = Move (Virtual (first + d)) (Real ALLOCATION)
 
       -- the size of so few words is a small number
       size_paid : (ws : List ℕ) → words_of s.active.locals args ≡ Some ws → nat_lt (length ws) 256 ≡ true
@@ -458,20 +471,21 @@ module _ {V : Type 0} (program : Program V) where
       bytes = 8 * length args % 2 ^ 64
 
       free : ℕ
-      free = (t.regs 27 + (2 ^ 64 - t.regs 26)) % 2 ^ 64
+      free = (t.regs REGION_END + (2 ^ 64 - t.regs ALLOCATION)) % 2 ^ 64
 
       free_is : free ≡ (program.low.top + (2 ^ 64 - s.alloc)) % 2 ^ 64
-      free_is = ap (λ x. (x + (2 ^ 64 - t.regs 26)) % 2 ^ 64) on.body.4
+      free_is = ap (λ x. (x + (2 ^ 64 - t.regs ALLOCATION)) % 2 ^ 64) on.body.4
           ∙ ap (λ x. (program.low.top + (2 ^ 64 - x)) % 2 ^ 64) on.body.1
 
       t1 : VirtualState
-      t1 = wrote_real 5 free t
+      t1 = wrote_real FIRST_SCRATCH free t
 
       t2 : VirtualState
-      t2 = wrote_real 6 bytes t1
+      t2 = wrote_real SECOND_SCRATCH bytes t1
 
       tail : List VirtualItem
-      tail = Move (Virtual (first + d)) (Real 26) ∷ Compute Add (Real 26) (Real 26) (Real 6)
+      tail = Move (Virtual (first + d)) (Real ALLOCATION)
+        ∷ Compute Add (Real ALLOCATION) (Real ALLOCATION) (Real SECOND_SCRATCH)
           ∷ items_of program s t on rest
 
       after : ItemsOn program s t on (suc (suc (suc t.pc))) (stores_items first 0 args ++ tail)
@@ -492,7 +506,8 @@ module _ {V : Type 0} (program : Program V) where
       tested s1 Q k left r =
           does_item program.reading (setting program) (Way program s s1) Q (suc k)
           (item_price (setting program) f size_item + left) t t1
-          (Compute Sub (Real 5) (Real 27) (Real 26)) lies.stands.0 refl (way_first program s s1 t on.body) (
+          (Compute Sub (Real FIRST_SCRATCH) (Real REGION_END) (Real ALLOCATION)) lies.stands.0 refl
+            (way_first program s s1 t on.body) (
           does_item program.reading (setting program) (Way program s s1) Q k left t1 t2 size_item lies.stands.1.0 refl
           (way_first program s s1 t1 on.body) r)
 
@@ -554,18 +569,20 @@ module _ {V : Type 0} (program : Program V) where
                 let here : ItemsOn program s t on pc tail = subst
                 (λ q. ItemsOn program s t on q tail) (sym place) there in
                 let u1 : VirtualState = wrote_local (first + d) s.alloc u in
-                let u2 : VirtualState = wrote_real 26 ((regs 26 + bytes) % 2 ^ 64) u1 in
-                let sum : (regs 26 + bytes) % 2 ^ 64 ≡ s.alloc + 8 * length ws =
+                let u2 : VirtualState = wrote_real ALLOCATION ((regs ALLOCATION + bytes) % 2 ^ 64) u1 in
+                let sum : (regs ALLOCATION + bytes) % 2 ^ 64 ≡ s.alloc + 8 * length ws =
                 ap (λ x. (x + bytes) % 2 ^ 64) (same.alloc ∙ on.body.1)
                 ∙ (ap (λ n. (s.alloc + 8 * n % 2 ^ 64) % 2 ^ 64) (sym many)
                 ∙ moved_bytes s.alloc (length ws) program.low.top h program.small) in
                 does_item program.reading (setting program) (Way program s s1) (At program s1) 1
                 (1 + owed s.waiting) u u1 put here.stands.0
-                (move_local program.reading (setting program) u (first + d) (Real 26) s.alloc (ap Some (same.alloc
+                (move_local program.reading (setting program) u (first + d) (Real ALLOCATION) s.alloc
+                  (ap Some (same.alloc
                 ∙ on.body.1))
                 (mine program s t on d m)) (way_seen program s s1 u sn) (
                 does_item program.reading (setting program) (Way program s s1) (At program s1) 0 (owed s.waiting) u1 u2
-                (Compute Add (Real 26) (Real 26) (Real 6)) here.stands.1.0 (given_is u1 _ bytes _ v6)
+                (Compute Add (Real ALLOCATION) (Real ALLOCATION) (Real SECOND_SCRATCH)) here.stands.1.0
+                  (given_is u1 _ bytes _ v6)
                 (way_seen program s s1 u1 sn) (
                   record {
                     active = active_set program s t on rest d s.alloc u2.pc (record {

@@ -8,6 +8,7 @@ use Rattle.machine_words.specs.Conditions.{holds}
 use Rattle.low_ir.specs.declared.code.LowSource.{LowSource}
 use Rattle.low_ir.specs.Procedures.{Code, Done, If}
 use Rattle.low_ir.specs.Run.{LowState, word_of, goes_on, falls, code_step}
+use Rattle.rv_select.specs.declared.convention.TheConstants.{FIRST_SCRATCH, SECOND_SCRATCH}
 use Rattle.rv_select.specs.declared.code.VirtualItem.{VirtualItem}
 use Rattle.rv_select.specs.declared.code.VirtualItem.TheVariants.{Mark, Jump, Branch}
 use Rattle.rv_select.specs.Run.{Found, VirtualState, value, branch, item_step}
@@ -42,10 +43,10 @@ module _ {V : Type 0} (program : Program V) where
       m = on.active.mark
 
       p1 : ℕ
-      p1 = beyond (source_items 5 a) t.pc
+      p1 = beyond (source_items FIRST_SCRATCH a) t.pc
 
       pc : ℕ
-      pc = beyond (source_items 6 b) p1
+      pc = beyond (source_items SECOND_SCRATCH b) p1
 
       other_code : List VirtualItem
       other_code = code_items f.first on.active.out (suc (suc m)) other
@@ -57,14 +58,15 @@ module _ {V : Type 0} (program : Program V) where
       rest_code = code_items f.first on.active.out (suc (suc m) + marks_in other + marks_in one) rest
 
       item : VirtualItem
-      item = Branch cond (source_reg f.first 5 a) (source_reg f.first 6 b) m
+      item = Branch cond (source_reg f.first FIRST_SCRATCH a) (source_reg f.first SECOND_SCRATCH b) m
 
       tail : List VirtualItem
       tail = Jump (suc m) ∷ Mark m ∷ (one_code ++ (Mark (suc m) ∷ rest_code))
 
       here : ItemsOn program s t on pc (item ∷ (other_code ++ tail))
-      here = past program f on.active.out p1 (source_items 6 b) (item ∷ (other_code ++ tail)) s.active.rests
-          (past program f on.active.out t.pc (source_items 5 a) (source_items 6 b
+      here = past program f on.active.out p1 (source_items SECOND_SCRATCH b) (item
+        ∷ (other_code ++ tail)) s.active.rests
+          (past program f on.active.out t.pc (source_items FIRST_SCRATCH a) (source_items SECOND_SCRATCH b
           ++ (item ∷ (other_code ++ tail))) s.active.rests lies)
 
       -- the jump, and behind it the mark of the other branch
@@ -113,8 +115,8 @@ module _ {V : Type 0} (program : Program V) where
         leads = joined end_place (inl refl);
       }
 
-      branched : (x y : ℕ) (u : VirtualState) → value u (source_reg f.first 5 a) ≡ Some x
-          → value u (source_reg f.first 6 b) ≡ Some y → (test : Bool) → holds cond x y ≡ test
+      branched : (x y : ℕ) (u : VirtualState) → value u (source_reg f.first FIRST_SCRATCH a) ≡ Some x
+          → value u (source_reg f.first SECOND_SCRATCH b) ≡ Some y → (test : Bool) → holds cond x y ≡ test
           → item_step program.reading (setting program) item u ≡ branch program.reading (setting program) test m u
       branched x y u va vb test h =
           given_is u _ x _ va ∙ (given_is u _ y _ vb ∙ ap (λ c. branch program.reading (setting program) c m u) h)
@@ -126,7 +128,8 @@ module _ {V : Type 0} (program : Program V) where
           let s1 : LowState = goes_on other (rest ∷ s.active.rests) s in (
             fetches a (fetches b 1),
             inl (some_steps program a b),
-            prices (setting program) f (source_items 5 a) (prices (setting program) f (source_items 6 b)
+            prices (setting program) f (source_items FIRST_SCRATCH a)
+              (prices (setting program) f (source_items SECOND_SCRATCH b)
                 (item_price (setting program) f item + owed s.waiting)),
             (let p = both_paid program s t a b (item_price (setting program) f item + owed s.waiting) in omega
                 (arith, p)),
@@ -160,7 +163,8 @@ module _ {V : Type 0} (program : Program V) where
             fetches a (fetches b 2),
             inl (let i = fetches_ge b 2 in let j = fetches_ge a (fetches b 2) in
                 omega (arith, i, j)),
-            prices (setting program) f (source_items 5 a) (prices (setting program) f (source_items 6 b)
+            prices (setting program) f (source_items FIRST_SCRATCH a)
+              (prices (setting program) f (source_items SECOND_SCRATCH b)
                 (item_price (setting program) f item + (0 + owed s.waiting))),
             (let p = both_paid program s t a b (item_price (setting program) f item + (0 + owed s.waiting)) in omega
                 (arith, p)),

@@ -9,6 +9,7 @@ use Rattle.low_ir.specs.declared.code.LowSource.{LowSource}
 use Rattle.low_ir.specs.Procedures.{Code, CodeOf as LowCodeOf, Call as LowCall, CallAt as LowCallAt, Proc}
 use Rattle.low_ir.specs.Run.{LowState, word_of, words_of, bind, proc_from, waits, code_step, held_by as words_held}
 use Rattle.low_ir.specs.Prices.{slot_price, sources_price, entering, entering_some}
+use Rattle.rv_select.specs.declared.convention.TheConstants.{ZERO, THIRD_SCRATCH, FIRST_ARGUMENT, ANSWER}
 use Rattle.rv_select.specs.declared.code.VReg.{VReg}
 use Rattle.rv_select.specs.declared.code.VReg.TheVariants.{Real, Virtual}
 use Rattle.rv_select.specs.declared.code.VirtualItem.{VirtualItem}
@@ -54,10 +55,13 @@ module _ {V : Type 0} (program : Program V) where
     };
   }
 
-  handed_known : (known : ℕ → Bool) (i m : ℕ) → known (10 + i) ≡ true → i < m → only_args m known (10 + i) ≡ true
+  handed_known : (known : ℕ → Bool) (i m : ℕ) → known (FIRST_ARGUMENT + i) ≡ true → i < m
+      → only_args m known (FIRST_ARGUMENT + i) ≡ true
   handed_known known i m h k =
-      let inside : (nat_le 10 (10 + i) && nat_lt (10 + i) (10 + m)) ≡ true = grind arith in
-      ap (λ c. c && (nat_le 10 (10 + i) && nat_lt (10 + i) (10 + m))) h ∙ inside
+      let inside : (nat_le FIRST_ARGUMENT (FIRST_ARGUMENT + i)
+        && nat_lt (FIRST_ARGUMENT + i) (FIRST_ARGUMENT + m)) ≡ true = grind arith in
+      ap (λ c. c && (nat_le FIRST_ARGUMENT (FIRST_ARGUMENT + i) && nat_lt (FIRST_ARGUMENT + i) (FIRST_ARGUMENT + m))) h
+        ∙ inside
 
   -- where a procedure is entered, its words take the place of those of the one that handed the words on
   held_entered : (frames : List Frame) (from found : Found) (count words rest more : ℕ)
@@ -68,7 +72,7 @@ module _ {V : Type 0} (program : Program V) where
 
   -- from its home a procedure takes its parameters
   pub from_home : (s s2 : LowState) (te : VirtualState) (ws : List ℕ) (p : Proc) (f : Found) (n : ℕ) → length ws ≡ n
-      → Entered program p f → HasArgs te.regs 0 ws → ((i : ℕ) → i < length ws → te.known (10 + i) ≡ true)
+      → Entered program p f → HasArgs te.regs 0 ws → ((i : ℕ) → i < length ws → te.known (FIRST_ARGUMENT + i) ≡ true)
       → Behind program s2.waiting te.frames → Body program s2 te → te.active.found.count ≡ s2.active.count → p.params
       ≡ length ws
       → length ws ≤ 8 → p.params ≤ p.words
@@ -176,7 +180,8 @@ module _ {V : Type 0} (program : Program V) where
       (rest : Code) (p : Proc) (f : Found) (item : VirtualItem) (regs : Registers) (known : ℕ → Bool) (pc : ℕ)
       → SameFixed regs t.regs → Entered program p f → words_of s.active.locals args ≡ Some ws
       → ItemsOn program s t on pc (args_items t.active.found.first 0 args
-      ++ (item ∷ Move (Virtual (t.active.found.first + d)) (Real 10) ∷ items_of program s t on rest)) → (let place : ℕ =
+      ++ (item ∷ Move (Virtual (t.active.found.first + d)) (Real ANSWER) ∷ items_of program s t on rest))
+        → (let place : ℕ =
       beyond (args_items t.active.found.first 0 args) pc in
       item_step program.reading (setting program) item (record t {
         regs = args_regs 0 ws regs;
@@ -202,7 +207,7 @@ module _ {V : Type 0} (program : Program V) where
       let u : VirtualState = record t { regs = regs; known = known; pc = pc } in
       let s2 : LowState = waits program.reading program.low d (popped program s rest) in
       let place : ℕ = beyond (args_items first 0 args) pc in
-      let behind_item : List VirtualItem = Move (Virtual (first + d)) (Real 10) ∷ items_of program s t on rest in
+      let behind_item : List VirtualItem = Move (Virtual (first + d)) (Real ANSWER) ∷ items_of program s t on rest in
       let te : VirtualState = record t {
         regs = args_regs 0 ws regs;
         known = args_known 0 ws known;
@@ -226,7 +231,7 @@ module _ {V : Type 0} (program : Program V) where
         b.7,
         b.8,
       )) in
-      let frame : ActiveOn program (Move (Virtual (first + d)) (Real 10)
+      let frame : ActiveOn program (Move (Virtual (first + d)) (Real ANSWER)
       ∷ []) (record s.active { code = rest }) (suc place)
       t.active = record {
         mark = on.active.mark;
@@ -302,7 +307,8 @@ module _ {V : Type 0} (program : Program V) where
             e lies (given_is _ _ l.0 _ l.1) f3.0 f3.1 f3.2,
       ))))
 
-  pub args_kept : (ws : List ℕ) (from : ℕ) (t : VirtualState) (pc : ℕ) (v : VReg) (w : ℕ) → ((q : ℕ) → NotIn (10 + q) v)
+  pub args_kept : (ws : List ℕ) (from : ℕ) (t : VirtualState) (pc : ℕ) (v : VReg) (w : ℕ)
+      → ((q : ℕ) → NotIn (FIRST_ARGUMENT + q) v)
       → value t v ≡ Some w → value (record t {
         regs = args_regs from ws t.regs;
         known = args_known from ws t.known;
@@ -310,14 +316,16 @@ module _ {V : Type 0} (program : Program V) where
             pc;
       }) v ≡ Some w
   args_kept [] from t pc v w n e =
-      kept_value t 10 t.regs t.known pc (record { same = λ q h. refl; still = λ q h. h }) v w (n 0) e
+      kept_value t FIRST_ARGUMENT t.regs t.known pc (record { same = λ q h. refl; still = λ q h. h }) v w (n 0) e
   args_kept (x ∷ ws) from t pc v w n e =
-      args_kept ws (suc from) (wrote_real (10 + from) x t) pc v w n (wrote_kept t (10 + from) x v w (n from) e)
+      args_kept ws (suc from) (wrote_real (FIRST_ARGUMENT + from) x t) pc v w n
+        (wrote_kept t (FIRST_ARGUMENT + from) x v w (n from) e)
 
-  pub no_arg : (first : ℕ) (a : LowSource) (q : ℕ) → NotIn (10 + q) (source_reg first 7 a)
+  pub no_arg : (first : ℕ) (a : LowSource) (q : ℕ) → NotIn (FIRST_ARGUMENT + q) (source_reg first THIRD_SCRATCH a)
   no_arg first a q =
-      let seven : (7 == 10 + q) ≡ false = grind arith in
-      let none : (0 == 10 + q) ≡ false = grind arith in source_apart first 7 (10 + q) a seven none
+      let seven : (THIRD_SCRATCH == FIRST_ARGUMENT + q) ≡ false = grind arith in
+      let none : (ZERO == FIRST_ARGUMENT + q) ≡ false = grind arith in source_apart first THIRD_SCRATCH
+        (FIRST_ARGUMENT + q) a seven none
 
   pub do_call_at : Laid program → (s : LowState) (t : VirtualState) (on : On program s t)
       (d : ℕ) (a : LowSource) (args : List LowSource)
@@ -329,10 +337,10 @@ module _ {V : Type 0} (program : Program V) where
       let purse : ℕ = purse_of program s (LowCallAt d a args rest) in
       let left : ℕ = 1 + slot_price d + owed s.waiting in
       let first : ℕ = t.active.found.first in
-      let item : VirtualItem = CallAt (source_reg first 7 a) (length args) in
+      let item : VirtualItem = CallAt (source_reg first THIRD_SCRATCH a) (length args) in
       let tail : List VirtualItem =
-      args_items first 0 args ++ (item ∷ Move (Virtual (first + d)) (Real 10) ∷ items_of program s t on rest) in
-      let pc : ℕ = beyond (source_items 7 a) t.pc in
+      args_items first 0 args ++ (item ∷ Move (Virtual (first + d)) (Real ANSWER) ∷ items_of program s t on rest) in
+      let pc : ℕ = beyond (source_items THIRD_SCRATCH a) t.pc in
       sim_given program purse s s t (word_of s.active.locals a) _ (λ at ae.
       sim_given program purse s s t (words_of s.active.locals args) _ (λ ws e.
       let s2 : LowState = waits program.reading program.low d (popped program s rest) in
@@ -348,10 +356,10 @@ module _ {V : Type 0} (program : Program V) where
       let later : ℕ = entering_paid from l.0 args item p.params left in (
         fetches a total,
         inl (let z = fetches_ge a total in omega (arith, steps, z)),
-        prices (setting program) from (source_items 7 a) later,
-        (let i = source_paid (setting program) from 7 a later in
+        prices (setting program) from (source_items THIRD_SCRATCH a) later,
+        (let i = source_paid (setting program) from THIRD_SCRATCH a later in
             let j = enters_paid from l.0 args ws item p.params left many f3.0 f3.1 in omega (arith, i, j)),
-        fetch program.reading (setting program) (Way program s s1) (At program s1) s.active.locals 7 (
+        fetch program.reading (setting program) (Way program s s1) (At program s1) s.active.locals THIRD_SCRATCH (
           refl,
           refl,
           refl,
@@ -359,8 +367,8 @@ module _ {V : Type 0} (program : Program V) where
         ) a at t tail total later ae on.active.locals lies.stands (way_first program s s1 t on.body)
             (λ regs known kept va.
             call_from s t on d args ws rest p l.0 item regs known pc (kept_fixed kept refl refl refl) l.2 e
-            (past program t.active.found on.active.out t.pc (source_items 7 a) tail s.active.rests lies)
+            (past program t.active.found on.active.out t.pc (source_items THIRD_SCRATCH a) tail s.active.rests lies)
             (given_is _ _ at _ (args_kept ws 0 (record t { regs = regs; known = known; pc = pc })
-            (beyond (args_items first 0 args) pc) (source_reg first 7 a) at (no_arg first a) va)
+            (beyond (args_items first 0 args) pc) (source_reg first THIRD_SCRATCH a) at (no_arg first a) va)
             ∙ given_is _ _ l.0 _ l.1) f3.0 f3.1 f3.2),
       )))))

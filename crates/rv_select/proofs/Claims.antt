@@ -14,6 +14,8 @@ use Rattle.low_ir.specs.Procedures.{Code, Done, Set, Compute as LowCompute, Load
 use Rattle.low_ir.specs.Procedures.{CodeOf as LowCodeOf, Build, Request, Take, Environment as LowEnvironment}
 use Rattle.low_ir.specs.Procedures.{Call as LowCall, CallAt as LowCallAt, If, Return as LowReturn}
 use Rattle.low_ir.specs.Procedures.{TailCall as LowTailCall, TailCallAt as LowTailCallAt, Proc}
+use Rattle.rv_select.specs.declared.convention.TheConstants.{FIRST_SCRATCH, SECOND_SCRATCH, THIRD_SCRATCH}
+use Rattle.rv_select.specs.declared.convention.TheConstants.{FIRST_ARGUMENT, SECOND_ARGUMENT, ANSWER}
 use Rattle.rv_select.specs.declared.code.VReg.{VReg}
 use Rattle.rv_select.specs.declared.code.VReg.TheVariants.{Real, Virtual}
 use Rattle.rv_select.specs.declared.code.VirtualItem.{VirtualItem}
@@ -62,7 +64,7 @@ put_fits first rd (Number n) = refl
 
 args_fit : (first from : ℕ) (args : List LowSource) → AllFit (args_items first from args)
 args_fit first from [] = tt
-args_fit first from (a ∷ args) = (put_fits first (Real (10 + from)) a, args_fit first (suc from) args)
+args_fit first from (a ∷ args) = (put_fits first (Real (FIRST_ARGUMENT + from)) a, args_fit first (suc from) args)
 
 params_fit : (first from n : ℕ) → AllFit (params_items first from n)
 params_fit first from zero = tt
@@ -75,7 +77,7 @@ stores_fit : (first offset : ℕ) (args : List LowSource) → offset + 8 * lengt
     → AllFit (stores_items first offset args)
 stores_fit first offset [] h = tt
 stores_fit first offset (a ∷ args) h =
-    fit_append (source_items 5 a) _ (source_fits 5 a)
+    fit_append (source_items FIRST_SCRATCH a) _ (source_fits FIRST_SCRATCH a)
     (is_below offset (omega (arith, h)), stores_fit first (offset + 8) args (omega (arith, h)))
 
 small_fits : (op : WordOp) (b : LowSource) (first : ℕ) (rd : VReg) (a : LowSource) (c : Bool) → is_small op b ≡ c
@@ -86,7 +88,7 @@ small_fits op b first rd a false h = refl
 
 second_fits : (c : Bool) (b : LowSource) → AllFit (second_items c b)
 second_fits true b = tt
-second_fits false b = source_fits 6 b
+second_fits false b = source_fits SECOND_SCRATCH b
 
 module _ (first out : ℕ) where
   with_source : (r : ℕ) (a : LowSource) (xs : List VirtualItem) → AllFit xs → AllFit (source_items r a ++ xs)
@@ -99,11 +101,11 @@ module _ (first out : ℕ) where
   code_fits Done m h = tt
   code_fits (Set d a rest) m h = (put_fits first (Virtual (first + d)) a, code_fits rest m h)
   code_fits (LowCompute op d a b rest) m h =
-      with_source 5 a _ (fit_append (second_items (is_small op b) b) _ (second_fits (is_small op b) b)
+      with_source FIRST_SCRATCH a _ (fit_append (second_items (is_small op b) b) _ (second_fits (is_small op b) b)
       (small_fits op b first (Virtual (first + d)) a (is_small op b) refl, code_fits rest m h))
-  code_fits (LowLoad d a offset rest) m h = with_source 5 a _ (is_below offset h.0, code_fits rest m h.1)
+  code_fits (LowLoad d a offset rest) m h = with_source FIRST_SCRATCH a _ (is_below offset h.0, code_fits rest m h.1)
   code_fits (LowStore b a offset rest) m h =
-      with_source 5 a _ (with_source 6 b _ (is_below offset h.0, code_fits rest m h.1))
+      with_source FIRST_SCRATCH a _ (with_source SECOND_SCRATCH b _ (is_below offset h.0, code_fits rest m h.1))
   code_fits (LowCodeOf d k rest) m h = (refl, code_fits rest m h)
   code_fits (Build d args rest) m h = (
     refl,
@@ -116,14 +118,16 @@ module _ (first out : ℕ) where
       ),
     ),
   )
-  code_fits (Request d a rest) m h = with_source 7 a _ (refl, (refl, (refl, (refl, code_fits rest m h))))
-  code_fits (Take a rest) m h = with_source 7 a _ (refl, (refl, code_fits rest m h))
+  code_fits (Request d a rest) m h = with_source THIRD_SCRATCH a _ (refl, (refl, (refl, (refl, code_fits rest m h))))
+  code_fits (Take a rest) m h = with_source THIRD_SCRATCH a _ (refl, (refl, code_fits rest m h))
   code_fits (LowEnvironment number a b d e rest) m h =
-      (put_fits first (Real 10) a, (put_fits first (Real 11) b, (refl, (refl, (refl, (refl, code_fits rest m h))))))
+      (put_fits first (Real FIRST_ARGUMENT) a, (put_fits first (Real SECOND_ARGUMENT) b,
+        (refl, (refl, (refl, (refl, code_fits rest m h))))))
   code_fits (LowCall d k args rest) m h = with_args args _ (refl, (refl, code_fits rest m h.1))
-  code_fits (LowCallAt d f args rest) m h = with_source 7 f _ (with_args args _ (refl, (refl, code_fits rest m h.1)))
+  code_fits (LowCallAt d f args rest) m h = with_source THIRD_SCRATCH f _
+      (with_args args _ (refl, (refl, code_fits rest m h.1)))
   code_fits (If cond a b one other rest) m h =
-      with_source 5 a _ (with_source 6 b _ (
+      with_source FIRST_SCRATCH a _ (with_source SECOND_SCRATCH b _ (
         refl,
         fit_append (code_items first out (suc (suc m)) other) _
             (code_fits other (suc (suc m)) h.1) (
@@ -137,9 +141,9 @@ module _ (first out : ℕ) where
               ),
             ),
       ))
-  code_fits (LowReturn a) m h = (put_fits first (Real 10) a, (refl, tt))
+  code_fits (LowReturn a) m h = (put_fits first (Real ANSWER) a, (refl, tt))
   code_fits (LowTailCall k args) m h = with_args args _ (refl, tt)
-  code_fits (LowTailCallAt f args) m h = with_source 7 f _ (with_args args _ (refl, tt))
+  code_fits (LowTailCallAt f args) m h = with_source THIRD_SCRATCH f _ (with_args args _ (refl, tt))
 
 procs_fit : (ps : List Proc) (k first mark : ℕ) → AreSmall ps → AllFit (procs_items k first mark ps)
 procs_fit [] k first mark h = tt

@@ -5,6 +5,7 @@ use Rattle.machine_words.specs.declared.conditions.Cond.{Cond}
 use Rattle.low_ir.specs.declared.code.LowSource.{LowSource}
 use Rattle.low_ir.specs.declared.code.WordOp.{WordOp}
 use Rattle.low_ir.specs.Procedures.{Code, If}
+use Rattle.rv_select.specs.declared.convention.TheConstants.{FIRST_SCRATCH, SECOND_SCRATCH, FIRST_ARGUMENT, ALLOCATION}
 use Rattle.rv_select.specs.declared.code.VReg.TheVariants.{Real, Virtual}
 use Rattle.rv_select.specs.declared.code.VirtualItem.{VirtualItem}
 use Rattle.rv_select.specs.declared.code.VirtualItem.TheVariants.{Move, Store, Branch, Jump, Mark}
@@ -15,85 +16,93 @@ use Rattle.rv_select.specs.Select.{call_items, call_at_items}
 
 args_next : (first from i : ℕ) (xs : List LowSource) (d : LowSource) → i < length xs
     → args_items first from (take (suc i) xs)
-    ≡ args_items first from (take i xs) ++ (put_item first (Real (10 + (from + i))) (get_or xs i d) ∷ [])
+    ≡ args_items first from (take i xs) ++ (put_item first (Real (FIRST_ARGUMENT + (from + i))) (get_or xs i d) ∷ [])
 args_next first from i [] d h = absurd (omega (arith, h))
 args_next first from zero (x ∷ xs) d h =
     let same : from ≡ from + 0 = omega arith in
-    ap (λ n. put_item first (Real (10 + n)) x ∷ []) same
+    ap (λ n. put_item first (Real (FIRST_ARGUMENT + n)) x ∷ []) same
 args_next first from (suc i) (x ∷ xs) d h =
     let same : suc from + i ≡ from + suc i = omega arith in
-    ap (λ ys. put_item first (Real (10 + from)) x ∷ ys) (args_next first (suc from) i xs d (omega (arith, h))
-    ∙ ap (λ n. args_items first (suc from) (take i xs) ++ (put_item first (Real (10 + n)) (get_or xs i d) ∷ [])) same)
+    ap (λ ys. put_item first (Real (FIRST_ARGUMENT + from)) x ∷ ys)
+        (args_next first (suc from) i xs d (omega (arith, h))
+    ∙ ap (λ n. args_items first (suc from) (take i xs)
+        ++ (put_item first (Real (FIRST_ARGUMENT + n)) (get_or xs i d) ∷ [])) same)
 
 -- one more word is handed on
 pub args_more : (first i : ℕ) (xs : List LowSource) (d : LowSource) (item : VirtualItem)
-    (items old before : List VirtualItem) → i < length xs → item ≡ put_item first (Real (10 + i)) (get_or xs i d)
+    (items old before : List VirtualItem) → i < length xs
+        → item ≡ put_item first (Real (FIRST_ARGUMENT + i)) (get_or xs i d)
     → before ≡ old ++ args_items first 0 (take i xs) → items ≡ before ++ (item ∷ [])
     → items ≡ old ++ args_items first 0 (take (i + 1) xs)
 args_more first i xs d item items old before h e b k =
     let next : suc i ≡ i + 1 = omega arith in
     let whole : 0 + i ≡ i = omega arith in
     let more = args_next first 0 i xs d h
-    ∙ ap (λ n. args_items first 0 (take i xs) ++ (put_item first (Real (10 + n)) (get_or xs i d) ∷ [])) whole in
+    ∙ ap (λ n. args_items first 0 (take i xs)
+        ++ (put_item first (Real (FIRST_ARGUMENT + n)) (get_or xs i d) ∷ [])) whole in
     k ∙ (ap (λ z. z ++ (item ∷ [])) b ∙ (append_assoc old (args_items first 0 (take i xs)) (item ∷ [])
     ∙ (ap (λ y. old ++ (args_items first 0 (take i xs) ++ (y ∷ []))) e ∙ (ap (λ z. old ++ z) (sym more)
     ∙ ap (λ n. old ++ args_items first 0 (take n xs)) next))))
 
 params_next : (first from n : ℕ) → params_items first from (suc n)
-    ≡ params_items first from n ++ (Move (Virtual (first + (from + n))) (Real (10 + (from + n))) ∷ [])
+    ≡ params_items first from n ++ (Move (Virtual (first + (from + n))) (Real (FIRST_ARGUMENT + (from + n))) ∷ [])
 params_next first from zero =
     let same : from ≡ from + 0 = omega arith in
-    ap (λ n. Move (Virtual (first + n)) (Real (10 + n)) ∷ []) same
+    ap (λ n. Move (Virtual (first + n)) (Real (FIRST_ARGUMENT + n)) ∷ []) same
 params_next first from (suc n) =
     let same : suc from + n ≡ from + suc n = omega arith in
-    ap (λ ys. Move (Virtual (first + from)) (Real (10 + from)) ∷ ys) (params_next first (suc from) n
-    ∙ ap (λ m. params_items first (suc from) n ++ (Move (Virtual (first + m)) (Real (10 + m)) ∷ [])) same)
+    ap (λ ys. Move (Virtual (first + from)) (Real (FIRST_ARGUMENT + from)) ∷ ys) (params_next first (suc from) n
+    ∙ ap (λ m. params_items first (suc from) n ++ (Move (Virtual (first + m)) (Real (FIRST_ARGUMENT + m)) ∷ [])) same)
 
 -- one more parameter is taken
 pub params_more : (first i : ℕ) (items old before : List VirtualItem) → before ≡ old ++ params_items first 0 i
-    → items ≡ before ++ (Move (Virtual (first + i)) (Real (10 + i)) ∷ [])
+    → items ≡ before ++ (Move (Virtual (first + i)) (Real (FIRST_ARGUMENT + i)) ∷ [])
     → items ≡ old ++ params_items first 0 (i + 1)
 params_more first i items old before b k =
     let next : suc i ≡ i + 1 = omega arith in
     let whole : 0 + i ≡ i = omega arith in
     let more = params_next first 0 i
-    ∙ ap (λ n. params_items first 0 i ++ (Move (Virtual (first + n)) (Real (10 + n)) ∷ [])) whole in
-    k ∙ (ap (λ z. z ++ (Move (Virtual (first + i)) (Real (10 + i)) ∷ [])) b
-    ∙ (append_assoc old (params_items first 0 i) (Move (Virtual (first + i)) (Real (10 + i)) ∷ [])
+    ∙ ap (λ n. params_items first 0 i ++ (Move (Virtual (first + n)) (Real (FIRST_ARGUMENT + n)) ∷ [])) whole in
+    k ∙ (ap (λ z. z ++ (Move (Virtual (first + i)) (Real (FIRST_ARGUMENT + i)) ∷ [])) b
+    ∙ (append_assoc old (params_items first 0 i) (Move (Virtual (first + i)) (Real (FIRST_ARGUMENT + i)) ∷ [])
     ∙ (ap (λ z. old ++ z) (sym more) ∙ ap (λ n. old ++ params_items first 0 n) next)))
 
 stores_next : (first offset i : ℕ) (xs : List LowSource) (d : LowSource) → i < length xs
     → stores_items first offset (take (suc i) xs)
-    ≡ stores_items first offset (take i xs) ++ (source_items 5 (get_or xs i d)
-    ++ (Store (source_reg first 5 (get_or xs i d)) (Real 26) (offset + 8 * i) ∷ []))
+    ≡ stores_items first offset (take i xs) ++ (source_items FIRST_SCRATCH (get_or xs i d)
+    ++ (Store (source_reg first FIRST_SCRATCH (get_or xs i d)) (Real ALLOCATION) (offset + 8 * i) ∷ []))
 stores_next first offset i [] d h = absurd (omega (arith, h))
 stores_next first offset zero (x ∷ xs) d h =
     let same : offset ≡ offset + 8 * 0 = omega arith in
-    ap (λ n. source_items 5 x ++ (Store (source_reg first 5 x) (Real 26) n ∷ [])) same
+    ap (λ n. source_items FIRST_SCRATCH x ++ (Store (source_reg first FIRST_SCRATCH x) (Real ALLOCATION) n ∷ [])) same
 stores_next first offset (suc i) (x ∷ xs) d h =
     let same : offset + 8 + 8 * i ≡ offset + 8 * suc i = omega arith in
-    let one : VirtualItem = Store (source_reg first 5 x) (Real 26) offset in
+    let one : VirtualItem = Store (source_reg first FIRST_SCRATCH x) (Real ALLOCATION) offset in
     let later : List VirtualItem = stores_items first (offset + 8) (take i xs) in
     let y : LowSource = get_or xs i d in
-    ap (λ ys. source_items 5 x ++ (one ∷ ys)) (stores_next first (offset + 8) i xs d (omega (arith, h))
-    ∙ ap (λ n. later ++ (source_items 5 y ++ (Store (source_reg first 5 y) (Real 26) n ∷ []))) same)
-    ∙ sym (append_assoc (source_items 5 x) (one ∷ later) _)
+    ap (λ ys. source_items FIRST_SCRATCH x ++ (one ∷ ys)) (stores_next first (offset + 8) i xs d (omega (arith, h))
+    ∙ ap (λ n. later
+        ++ (source_items FIRST_SCRATCH y ++ (Store (source_reg first FIRST_SCRATCH y) (Real ALLOCATION) n ∷ []))) same)
+    ∙ sym (append_assoc (source_items FIRST_SCRATCH x) (one ∷ later) _)
 
 -- one more word is stored
 pub stores_more : (first i : ℕ) (xs : List LowSource) (d : LowSource) (items old before middle : List VirtualItem)
     → i < length xs → before ≡ old ++ stores_items first 0 (take i xs)
-    → middle ≡ before ++ source_items 5 (get_or xs i d)
-    → items ≡ middle ++ (Store (source_reg first 5 (get_or xs i d)) (Real 26) (8 * i) ∷ [])
+    → middle ≡ before ++ source_items FIRST_SCRATCH (get_or xs i d)
+    → items ≡ middle ++ (Store (source_reg first FIRST_SCRATCH (get_or xs i d)) (Real ALLOCATION) (8 * i) ∷ [])
     → items ≡ old ++ stores_items first 0 (take (i + 1) xs)
 stores_more first i xs d items old before middle h b m k =
     let next : suc i ≡ i + 1 = omega arith in
     let whole : 0 + 8 * i ≡ 8 * i = omega arith in
     let y : LowSource = get_or xs i d in
     let done : List VirtualItem = stores_items first 0 (take i xs) in
-    let one : List VirtualItem = Store (source_reg first 5 y) (Real 26) (8 * i) ∷ [] in
+    let one : List VirtualItem = Store (source_reg first FIRST_SCRATCH y) (Real ALLOCATION) (8 * i) ∷ [] in
     let more = stores_next first 0 i xs d h
-    ∙ ap (λ n. done ++ (source_items 5 y ++ (Store (source_reg first 5 y) (Real 26) n ∷ []))) whole in
-    k ∙ (ap (λ z. z ++ one) (m ∙ ap (λ z. z ++ source_items 5 y) b) ∙ (flat old done (source_items 5 y) one
+    ∙ ap (λ n. done
+        ++ (source_items FIRST_SCRATCH y ++ (Store (source_reg first FIRST_SCRATCH y) (Real ALLOCATION) n ∷ [])))
+          whole in
+    k ∙ (ap (λ z. z ++ one) (m ∙ ap (λ z. z ++ source_items FIRST_SCRATCH y) b)
+        ∙ (flat old done (source_items FIRST_SCRATCH y) one
     ∙ (ap (λ z. old ++ z) (sym more) ∙ ap (λ n. old ++ stores_items first 0 (take n xs)) next)))
   where
     flat : (o xs ys zs : List VirtualItem) → ((o ++ xs) ++ ys) ++ zs ≡ o ++ (xs ++ (ys ++ zs))
@@ -118,10 +127,12 @@ module _ (first out m at_one m1 at_end m2 m3 m4 : ℕ) (cond : Cond) (a b : LowS
       let f3 : at_end ≡ suc m = omega (arith, e2, e3) in
       let f4 : m2 ≡ suc (suc m) = omega (arith, e2, e4) in
       rw (h6, h5, h4, h3, h2, h1, e6, e5, f4, f3, e1)
-      (joined i0 (source_items 5 a) (source_items 6 b) (code_items first out (suc (suc m)) other)
+      (joined i0 (source_items FIRST_SCRATCH a) (source_items SECOND_SCRATCH b)
+        (code_items first out (suc (suc m)) other)
       (code_items first out (suc (suc m) + marks_in other) one)
       (code_items first out (suc (suc m) + marks_in other + marks_in one) rest)
-      (Branch cond (source_reg first 5 a) (source_reg first 6 b) m) (Jump (suc m)) (Mark m) (Mark (suc m)))
+      (Branch cond (source_reg first FIRST_SCRATCH a) (source_reg first SECOND_SCRATCH b) m) (Jump (suc m)) (Mark m)
+        (Mark (suc m)))
 
 -- and has so many marks
 pub marks_more : (m m1 m2 m3 m4 : ℕ) (cond : Cond) (a b : LowSource) (one other rest : Code) → m1 ≡ m + 1

@@ -9,6 +9,8 @@ use Rattle.low_ir.specs.Steps.{Locals}
 use Rattle.low_ir.specs.declared.code.LowSource.{LowSource}
 use Rattle.low_ir.specs.declared.code.LowSource.TheVariants.{Word, Number}
 use Rattle.low_ir.specs.Run.{word_of}
+use Rattle.rv_select.specs.declared.convention.TheConstants.{FIRST_SCRATCH, SECOND_SCRATCH, STACK_END, ALLOCATION}
+use Rattle.rv_select.specs.declared.convention.TheConstants.{REGION_END}
 use Rattle.rv_select.specs.declared.code.VReg.{VReg}
 use Rattle.rv_select.specs.declared.code.VReg.TheVariants.{Real, Virtual}
 use Rattle.rv_select.specs.declared.code.VirtualItem.{VirtualItem}
@@ -34,8 +36,9 @@ pub record Kept (t : VirtualState) (r : ℕ) (regs : Registers) (known : ℕ →
 
 -- a register for numbers is none of x25, x26 and x27
 pub kept_fixed : {t : VirtualState} {r : ℕ} {regs : Registers} {known : ℕ → Bool} → Kept t r regs known
-    → (25 == r) ≡ false → (26 == r) ≡ false → (27 == r) ≡ false → SameFixed regs t.regs
-kept_fixed kept h k l = record { stack = kept.same 25 h; alloc = kept.same 26 k; top = kept.same 27 l }
+    → (STACK_END == r) ≡ false → (ALLOCATION == r) ≡ false → (REGION_END == r) ≡ false → SameFixed regs t.regs
+kept_fixed kept h k l = record
+    { stack = kept.same STACK_END h; alloc = kept.same ALLOCATION k; top = kept.same REGION_END l }
 
 kept_word : (c d k k1 : Bool) (a b w : ℕ) → a ≡ b → (k ≡ true → k1 ≡ true)
     → (if c && (d || k) then Some a else None) ≡ Some w → (if c && (d || k1) then Some b else None) ≡ Some w
@@ -131,7 +134,7 @@ module _ {V : Type 0} (reading : Halt → Ending V) (setting : Setting) where
     -- two sources
     pub fetch_both : (a b : LowSource) (x y : ℕ) (t : VirtualState) (rest : List VirtualItem) (k left : ℕ)
         → word_of l a ≡ Some x → word_of l b ≡ Some y → ((i : ℕ) → t.active.locals (t.active.found.first + i) ≡ l i)
-        → Stands reading setting t.pc (source_items 5 a ++ (source_items 6 b ++ rest))
+        → Stands reading setting t.pc (source_items FIRST_SCRATCH a ++ (source_items SECOND_SCRATCH b ++ rest))
         → ((regs : Registers) (known : ℕ → Bool) (pc : ℕ) → SameFixed regs t.regs
         → P (record t { regs = regs; known = known; pc = pc })) → ((regs : Registers) (known : ℕ → Bool)
         → SameFixed regs t.regs
@@ -139,29 +142,33 @@ module _ {V : Type 0} (reading : Halt → Ending V) (setting : Setting) where
           regs = regs;
           known = known;
           pc =
-              beyond (source_items 6 b) (beyond (source_items 5 a) t.pc);
-        }) (source_reg t.active.found.first 5 a) ≡ Some x
+              beyond (source_items SECOND_SCRATCH b) (beyond (source_items FIRST_SCRATCH a) t.pc);
+        }) (source_reg t.active.found.first FIRST_SCRATCH a) ≡ Some x
         → value (record t {
           regs = regs;
           known = known;
           pc =
-              beyond (source_items 6 b) (beyond (source_items 5 a) t.pc);
-        }) (source_reg t.active.found.first 6 b) ≡ Some y
+              beyond (source_items SECOND_SCRATCH b) (beyond (source_items FIRST_SCRATCH a) t.pc);
+        }) (source_reg t.active.found.first SECOND_SCRATCH b) ≡ Some y
         → PaidWay reading setting P Q k left (record t {
           regs = regs;
           known = known;
           pc =
-              beyond (source_items 6 b) (beyond (source_items 5 a) t.pc);
+              beyond (source_items SECOND_SCRATCH b) (beyond (source_items FIRST_SCRATCH a) t.pc);
         })) → PaidWay reading setting P Q (fetches a (fetches b k))
-        (prices setting t.active.found (source_items 5 a) (prices setting t.active.found (source_items 6 b) left)) t
+        (prices setting t.active.found (source_items FIRST_SCRATCH a)
+          (prices setting t.active.found (source_items SECOND_SCRATCH b) left)) t
     fetch_both a b x y t rest k left ae be f s p go =
-        fetch 5 (refl, refl, refl, refl) a x t (source_items 6 b ++ rest) (fetches b k)
-        (prices setting t.active.found (source_items 6 b) left) ae f s
+        fetch FIRST_SCRATCH (refl, refl, refl, refl) a x t (source_items SECOND_SCRATCH b ++ rest) (fetches b k)
+        (prices setting t.active.found (source_items SECOND_SCRATCH b) left) ae f s
         (p t.regs t.known t.pc (fixed_self t.regs)) (λ regs known kept va.
-        let u : VirtualState = record t { regs = regs; known = known; pc = beyond (source_items 5 a) t.pc } in
-        fetch 6 (refl, refl, refl, refl) b y u rest k left be f (stands_past reading setting (source_items 5 a)
-        (source_items 6 b ++ rest) t.pc s) (p regs known u.pc (kept_fixed kept refl refl refl))
+        let u : VirtualState = record t
+          { regs = regs; known = known; pc = beyond (source_items FIRST_SCRATCH a) t.pc } in
+        fetch SECOND_SCRATCH (refl, refl, refl, refl) b y u rest k left be f
+          (stands_past reading setting (source_items FIRST_SCRATCH a)
+        (source_items SECOND_SCRATCH b ++ rest) t.pc s) (p regs known u.pc (kept_fixed kept refl refl refl))
         (λ regs2 known2 kept2 vb.
         go regs2 known2 (also_fixed (kept_fixed kept2 refl refl refl) (kept_fixed kept refl refl refl))
-        (kept_value u 6 regs2 known2 (beyond (source_items 6 b) u.pc) kept2
-        (source_reg t.active.found.first 5 a) x (source_apart t.active.found.first 5 6 a refl refl) va) vb))
+        (kept_value u SECOND_SCRATCH regs2 known2 (beyond (source_items SECOND_SCRATCH b) u.pc) kept2
+        (source_reg t.active.found.first FIRST_SCRATCH a) x (source_apart t.active.found.first FIRST_SCRATCH
+          SECOND_SCRATCH a refl refl) va) vb))

@@ -13,6 +13,7 @@ use Rattle.low_ir.specs.Steps.{no_locals}
 use Rattle.low_ir.specs.Procedures.{Proc}
 use Rattle.low_ir.specs.Run.{Setting as LowSetting, LowState, low_machine, low_start}
 use Rattle.low_ir.specs.Prices.{low_price}
+use Rattle.rv_select.specs.declared.convention.TheConstants.{STACK_END, ALLOCATION, REGION_END}
 use Rattle.rv_select.specs.declared.code.VirtualItem.{VirtualItem}
 use Rattle.rv_select.specs.declared.code.VirtualItem.TheVariants.{Call}
 use Rattle.rv_select.specs.Run.{Setting, Found, VirtualState, only_args, procedure_from, virtual_machine}
@@ -30,7 +31,7 @@ use Rattle.rv_select.proofs.Laying.{laid}
 module _ {V : Type 0} (reading : Halt → Ending V) (low : LowSetting) (entry : ℕ) (p : Proc) (regs : Registers)
     (memory : Memory) (world : WorldState) (small : low.top < 2 ^ 64) (fits : low.region ≤ low.top)
     (even : low.region % 8 ≡ 0) (found : slice_get low.procs entry ≡ Some p) (none : p.params ≡ 0)
-    (alloc : regs 26 ≡ low.region) (top : regs 27 ≡ low.top) where
+    (alloc : regs ALLOCATION ≡ low.region) (top : regs REGION_END ≡ low.top) where
   abbrev items : List VirtualItem
   items = select_items entry low.procs
 
@@ -41,10 +42,10 @@ module _ {V : Type 0} (reading : Halt → Ending V) (low : LowSetting) (entry : 
   t0 = virtual_start regs memory world
 
   abbrev program : Program V
-  program = record { reading = reading; low = low; items = items; stack = regs 25; small = small }
+  program = record { reading = reading; low = low; items = items; stack = regs STACK_END; small = small }
 
   pub all : Laid program
-  all = laid reading low (regs 25) small entry
+  all = laid reading low (regs STACK_END) small entry
 
   first_words : (f : Found) → f.count ≡ p.words → f.count + 0 ≡ p.words + 0
   first_words f e = omega (arith, e)
@@ -87,7 +88,7 @@ module _ {V : Type 0} (reading : Halt → Ending V) (low : LowSetting) (entry : 
       ) in
       let paid = way.2 in (way.0, way.1, omega (arith, paid, few), way.3)
 
-  first : Alike (SameRegion (regs 25) low.top) (low_machine reading low) (virtual_machine reading setting) s0 t0
+  first : Alike (SameRegion (regs STACK_END) low.top) (low_machine reading low) (virtual_machine reading setting) s0 t0
   first = as_alike program s0 t0 (
     (λ at h. refl),
     alloc,
@@ -100,14 +101,14 @@ module _ {V : Type 0} (reading : Halt → Ending V) (low : LowSetting) (entry : 
 
   -- the whole runs: no more is paid than the prices of steps, and for the start
   pub costs_select : NeverWrong (run (low_machine reading low) s0)
-      → FollowsBy (OfRest (SameRegion (regs 25) low.top)) (Spends 1)
+      → FollowsBy (OfRest (SameRegion (regs STACK_END) low.top)) (Spends 1)
       (run (metered (virtual_price setting) (virtual_machine reading setting)) (unspent t0))
       (run (metered (low_price low.procs) (low_machine reading low)) (record { spent = start_price; rest = s0 }))
   costs_select never =
       follows_paid (selected program all) start_price s0 1 t0 (starts _ first) never
 
   pub follows_select : NeverWrong (run (low_machine reading low) s0)
-      → FollowsBy (SameRegion (regs 25) low.top) Any (run (virtual_machine reading setting) t0)
+      → FollowsBy (SameRegion (regs STACK_END) low.top) Any (run (virtual_machine reading setting) t0)
       (run (low_machine reading low) s0)
   follows_select never =
       unmetered (low_machine reading low) (virtual_machine reading setting) (low_price low.procs)

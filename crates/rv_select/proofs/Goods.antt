@@ -14,6 +14,9 @@ use Rattle.low_ir.specs.Procedures.{Call as LowCall, CallAt as LowCallAt, If, Re
 use Rattle.low_ir.specs.Procedures.{TailCall as LowTailCall, TailCallAt as LowTailCallAt, Proc}
 use Rattle.low_ir.specs.Closed.{all_words, go_if, meet, then_known, behind, is_there, proc_closed, each_closed}
 use Rattle.low_ir.specs.Closed.{takes_none, is_closed, fits, reads as code_reads, names_fit, is_read, are_read}
+use Rattle.rv_select.specs.declared.convention.TheConstants.{FIRST_SCRATCH, SECOND_SCRATCH, THIRD_SCRATCH}
+use Rattle.rv_select.specs.declared.convention.TheConstants.{FIRST_ARGUMENT, SECOND_ARGUMENT, ANSWER, CALL_NUMBER}
+use Rattle.rv_select.specs.declared.convention.TheConstants.{ALLOCATION, REGION_END, END_CALL, REGION_OUT_CALL}
 use Rattle.rv_select.specs.declared.code.VReg.{VReg}
 use Rattle.rv_select.specs.declared.code.VReg.TheVariants.{Real, Virtual}
 use Rattle.rv_select.specs.declared.code.VirtualItem.{VirtualItem}
@@ -257,26 +260,28 @@ module _ (M : ℕ → Held) where
 
     args_ok : (args : List LowSource) (from : ℕ) (known : Known) (L : Held) (xs : List VirtualItem)
         → Has L first known → are_known known args ≡ true → ((K : Held) → Up L K
-        → ((i : ℕ) → from ≤ i → i < from + length args → K (Real (10 + i)) ≡ true) → Ok K xs)
+        → ((i : ℕ) → from ≤ i → i < from + length args → K (Real (FIRST_ARGUMENT + i)) ≡ true) → Ok K xs)
         → Ok L (args_items first from args ++ xs)
     args_ok [] from known L xs h e go = go L (λ z y. y) (λ i p q. absurd (let z : ⊥ = omega (arith, p, q) in z))
     args_ok (a ∷ args) from known L xs h e go =
         let k = and_split (is_known known a) (are_known known args) e in
-        let rd : VReg = Real (10 + from) in
+        let rd : VReg = Real (FIRST_ARGUMENT + from) in
         let L1 : Held = with_reg rd L in
         put_ok rd a known L (args_items first (suc from) args ++ xs) h k.0
         (args_ok args (suc from) known L1 xs (has_up L L1 first known (up_reg rd L) h) k.1 (λ K u has.
         go K (λ z y. u z (up_reg rd L z y)) (λ i p q. pick K u has i p q (i == from) refl)))
       where
-        pick : (K : Held) → Up (with_reg (Real (10 + from)) L) K → ((i : ℕ) → suc from ≤ i → i < suc from + length args
-            → K (Real (10 + i)) ≡ true) → (i : ℕ) → from ≤ i → i < from + suc (length args) → (c : Bool)
-            → (i == from) ≡ c → K (Real (10 + i)) ≡ true
+        pick : (K : Held) → Up (with_reg (Real (FIRST_ARGUMENT + from)) L) K
+          → ((i : ℕ) → suc from ≤ i → i < suc from + length args
+            → K (Real (FIRST_ARGUMENT + i)) ≡ true) → (i : ℕ) → from ≤ i → i < from + suc (length args) → (c : Bool)
+            → (i == from) ≡ c → K (Real (FIRST_ARGUMENT + i)) ≡ true
         pick K u has i p q true e =
-            let same : i ≡ from = grind arith in subst (λ x. K (Real (10 + x)) ≡ true) (sym same)
-            (u (Real (10 + from)) (reg_there (Real (10 + from)) L))
+            let same : i ≡ from = grind arith in subst (λ x. K (Real (FIRST_ARGUMENT + x)) ≡ true) (sym same)
+            (u (Real (FIRST_ARGUMENT + from)) (reg_there (Real (FIRST_ARGUMENT + from)) L))
         pick K u has i p q false e = has i (grind arith) (omega (arith, q))
 
-    handed_held : (L : Held) (n from : ℕ) → ((i : ℕ) → from ≤ i → i < from + n → L (Real (10 + i)) ≡ true) → (z : VReg)
+    handed_held : (L : Held) (n from : ℕ) → ((i : ℕ) → from ≤ i → i < from + n → L (Real (FIRST_ARGUMENT + i)) ≡ true)
+        → (z : VReg)
         → Among z (handed_on from n) → L z ≡ true
     handed_held L zero from has z r = absurd r
     handed_held L (suc n) from has z r =
@@ -284,15 +289,16 @@ module _ (M : ℕ → Held) where
         (λ i. handed_held L n (suc from) (λ j p q. has j (omega (arith, p)) (omega (arith, q))) z i) r
 
     abbrev behind_call : Held → Held
-    behind_call L a = is_reg (Real 10) a || (L a && is_spared a)
+    behind_call L a = is_reg (Real ANSWER) a || (L a && is_spared a)
 
     call_has : (L : Held) (known : Known) → Has L first known → Has (behind_call L) first known
     call_has L known h = (
-      λ r e. or_right (10 == r) (L (Real r) && is_fixed r) (and_both (L (Real r)) (is_fixed r) (h.0 r e) e),
+      λ r e. or_right (ANSWER == r) (L (Real r) && is_fixed r) (and_both (L (Real r)) (is_fixed r) (h.0 r e) e),
       λ i e. and_both (L (Virtual (first + i))) true (h.1 i e) refl,
     )
 
-    call_ok : (k n : ℕ) (L : Held) (xs : List VirtualItem) → ((i : ℕ) → 0 ≤ i → i < 0 + n → L (Real (10 + i)) ≡ true)
+    call_ok : (k n : ℕ) (L : Held) (xs : List VirtualItem)
+        → ((i : ℕ) → 0 ≤ i → i < 0 + n → L (Real (FIRST_ARGUMENT + i)) ≡ true)
         → Ok (behind_call L) xs → Ok L (Call k n ∷ xs)
     call_ok k n L xs has o = record {
       next = λ a h. h;
@@ -305,7 +311,8 @@ module _ (M : ℕ → Held) where
     }
 
     call_at_ok : (f : VReg) (n : ℕ) (L : Held) (xs : List VirtualItem) → L f ≡ true
-        → ((i : ℕ) → 0 ≤ i → i < 0 + n → L (Real (10 + i)) ≡ true) → Ok (behind_call L) xs → Ok L (CallAt f n ∷ xs)
+        → ((i : ℕ) → 0 ≤ i → i < 0 + n → L (Real (FIRST_ARGUMENT + i)) ≡ true) → Ok (behind_call L) xs
+          → Ok L (CallAt f n ∷ xs)
     call_at_ok f n L xs hf has o =
         record {
           next = λ a h. h;
@@ -324,11 +331,12 @@ module _ (M : ℕ → Held) where
     stores_ok (a ∷ args) offset known L xs h e go =
         let k = and_split (is_known known a) (are_known known args) e in
         let later : List VirtualItem = stores_items first (offset + 8) args in
-        let item : VirtualItem = Store (source_reg first 5 a) (Real 26) offset in
-        subst (Ok L) (sym (append_assoc (source_items 5 a) (item ∷ later) xs))
-        (source_ok 5 a known L (item ∷ (later ++ xs)) h k.0 (λ K u s.
-        plain_ok item K (later ++ xs) tt (λ z r. two_read K (Real 26) (source_reg first 5 a) z
-        (u (Real 26) (h.0 26 refl)) s r) (stores_ok args (offset + 8) known K xs (has_up L K first known u h) k.1
+        let item : VirtualItem = Store (source_reg first FIRST_SCRATCH a) (Real ALLOCATION) offset in
+        subst (Ok L) (sym (append_assoc (source_items FIRST_SCRATCH a) (item ∷ later) xs))
+        (source_ok FIRST_SCRATCH a known L (item ∷ (later ++ xs)) h k.0 (λ K u s.
+        plain_ok item K (later ++ xs) tt (λ z r. two_read K (Real ALLOCATION) (source_reg first FIRST_SCRATCH a) z
+        (u (Real ALLOCATION) (h.0 ALLOCATION refl)) s r) (stores_ok args (offset + 8) known K xs
+          (has_up L K first known u h) k.1
         (λ J v. go J (λ z y. v z (u z y))))))
 
 -- ---- code
@@ -403,44 +411,49 @@ module _ (M : ℕ → Held) (procs : List Proc) (n first out : ℕ) (fixed_out :
       let ka : is_known known a ≡ true = read_first n known a (b ∷ []) g.0 in
       let kb : is_known known b ≡ true = read_first n known b [] (read_then n known a (b ∷ []) g.0) in
       let code : List VirtualItem = code_items first out m rest in
-      subst (Ok M L) (sym (append_assoc (source_items 5 a) (second_items (is_small op b) b
+      subst (Ok M L) (sym (append_assoc (source_items FIRST_SCRATCH a) (second_items (is_small op b) b
       ++ (compute_item (is_small op b) first op (Virtual (first + d)) a b ∷ code)) ys))
-      (source_ok M first out 5 a known L _ h ka (λ K u v.
+      (source_ok M first out FIRST_SCRATCH a known L _ h ka (λ K u v.
       computed (is_small op b) K (has_up L K first known u h) v kb (λ J w.
       good_code rest m (also d known) k _ ys (set_has J known d w) g.1 s go)))
     where
-      computed : (c : Bool) (K : Held) → Has K first known → K (source_reg first 5 a) ≡ true → is_known known b ≡ true
+      computed : (c : Bool) (K : Held) → Has K first known → K (source_reg first FIRST_SCRATCH a) ≡ true
+        → is_known known b ≡ true
           → ((J : Held) → Has J first known → Ok M (with_reg (Virtual (first + d)) J) (code_items first out m rest
           ++ ys)) → Ok M K ((second_items c b ++ (compute_item c first op (Virtual (first + d)) a b
           ∷ code_items first out m rest)) ++ ys)
       computed true K hk va kb next =
-          plain_ok M (ComputeWith op (Virtual (first + d)) (source_reg first 5 a) (number_of b)) K _ tt
-          (λ z r. one_read M K (source_reg first 5 a) z va r) (next K hk)
+          plain_ok M (ComputeWith op (Virtual (first + d)) (source_reg first FIRST_SCRATCH a) (number_of b)) K _ tt
+          (λ z r. one_read M K (source_reg first FIRST_SCRATCH a) z va r) (next K hk)
       computed false K hk va kb next =
-          let item : VirtualItem = Compute op (Virtual (first + d)) (source_reg first 5 a) (source_reg first 6 b) in
-          subst (Ok M K) (sym (append_assoc (source_items 6 b) (item ∷ code_items first out m rest) ys))
-          (source_ok M first out 6 b known K _ hk kb (λ J w vb.
-          plain_ok M item J _ tt (λ z r. two_read M J (source_reg first 5 a) (source_reg first 6 b) z (w _ va) vb r)
+          let item : VirtualItem = Compute op (Virtual (first + d)) (source_reg first FIRST_SCRATCH a)
+            (source_reg first SECOND_SCRATCH b) in
+          subst (Ok M K) (sym (append_assoc (source_items SECOND_SCRATCH b) (item ∷ code_items first out m rest) ys))
+          (source_ok M first out SECOND_SCRATCH b known K _ hk kb (λ J w vb.
+          plain_ok M item J _ tt (λ z r.
+            two_read M J (source_reg first FIRST_SCRATCH a) (source_reg first SECOND_SCRATCH b) z (w _ va) vb r)
           (next J (has_up K J first known w hk))))
   good_code (LowLoad d a offset rest) m known k L ys h e s go =
       let g = parted procs n known (LowLoad d a offset rest) _ k e in
       let ka : is_known known a ≡ true = read_first n known a [] g.0 in
-      let item : VirtualItem = Load (Virtual (first + d)) (source_reg first 5 a) offset in
-      subst (Ok M L) (sym (append_assoc (source_items 5 a) (item ∷ code_items first out m rest) ys))
-      (source_ok M first out 5 a known L _ h ka (λ K u v.
-      plain_ok M item K _ tt (λ z r. one_read M K (source_reg first 5 a) z v r)
+      let item : VirtualItem = Load (Virtual (first + d)) (source_reg first FIRST_SCRATCH a) offset in
+      subst (Ok M L) (sym (append_assoc (source_items FIRST_SCRATCH a) (item ∷ code_items first out m rest) ys))
+      (source_ok M first out FIRST_SCRATCH a known L _ h ka (λ K u v.
+      plain_ok M item K _ tt (λ z r. one_read M K (source_reg first FIRST_SCRATCH a) z v r)
       (good_code rest m (also d known) k _ ys (set_has K known d (has_up L K first known u h)) g.1 s go)))
   good_code (LowStore b a offset rest) m known k L ys h e s go =
       let g = parted procs n known (LowStore b a offset rest) _ k e in
       let kb : is_known known b ≡ true = read_first n known b (a ∷ []) g.0 in
       let ka : is_known known a ≡ true = read_first n known a [] (read_then n known b (a ∷ []) g.0) in
-      let item : VirtualItem = Store (source_reg first 6 b) (source_reg first 5 a) offset in
+      let item : VirtualItem = Store (source_reg first SECOND_SCRATCH b) (source_reg first FIRST_SCRATCH a) offset in
       let code : List VirtualItem = code_items first out m rest in
-      subst (Ok M L) (sym (append_assoc (source_items 5 a) (source_items 6 b ++ (item ∷ code)) ys))
-      (source_ok M first out 5 a known L _ h ka (λ K u va.
-      subst (Ok M K) (sym (append_assoc (source_items 6 b) (item ∷ code) ys))
-      (source_ok M first out 6 b known K _ (has_up L K first known u h) kb (λ J w vb.
-      plain_ok M item J _ tt (λ z r. two_read M J (source_reg first 5 a) (source_reg first 6 b) z (w _ va) vb r)
+      subst (Ok M L) (sym (append_assoc (source_items FIRST_SCRATCH a) (source_items SECOND_SCRATCH b
+        ++ (item ∷ code)) ys))
+      (source_ok M first out FIRST_SCRATCH a known L _ h ka (λ K u va.
+      subst (Ok M K) (sym (append_assoc (source_items SECOND_SCRATCH b) (item ∷ code) ys))
+      (source_ok M first out SECOND_SCRATCH b known K _ (has_up L K first known u h) kb (λ J w vb.
+      plain_ok M item J _ tt (λ z r.
+        two_read M J (source_reg first FIRST_SCRATCH a) (source_reg first SECOND_SCRATCH b) z (w _ va) vb r)
       (good_code rest m known k _ ys (has_up K J first known w (has_up L K first known u h)) g.1 s go)))))
   good_code (LowCodeOf d i rest) m known k L ys h e s go =
       let g = parted procs n known (LowCodeOf d i rest) _ k e in
@@ -449,116 +462,131 @@ module _ (M : ℕ → Held) (procs : List Proc) (n first out : ℕ) (fixed_out :
   good_code (Build d args rest) m known k L ys h e s go =
       let g = parted procs n known (Build d args rest) _ k e in
       let ka : are_known known args ≡ true = read_all n known args g.0 in
-      let L1 : Held = with_reg (Real 5) L in
-      let L2 : Held = with_reg (Real 6) L1 in
-      let u2 : Up L L2 = (λ z y. up_reg (Real 6) L1 z (up_reg (Real 5) L z y)) in
+      let L1 : Held = with_reg (Real FIRST_SCRATCH) L in
+      let L2 : Held = with_reg (Real SECOND_SCRATCH) L1 in
+      let u2 : Up L L2 = (λ z y. up_reg (Real SECOND_SCRATCH) L1 z (up_reg (Real FIRST_SCRATCH) L z y)) in
       let h2 : Has L2 first known = has_up L L2 first known u2 h in
       let code : List VirtualItem = code_items first out m rest in
-      let tail : List VirtualItem = Move (Virtual (first + d)) (Real 26) ∷ Compute Add (Real 26) (Real 26) (Real 6)
+      let tail : List VirtualItem = Move (Virtual (first + d)) (Real ALLOCATION)
+        ∷ Compute Add (Real ALLOCATION) (Real ALLOCATION) (Real SECOND_SCRATCH)
       ∷ code in
-      plain_ok M (Compute Sub (Real 5) (Real 27) (Real 26)) L _ tt (λ z r.
-      two_read M L (Real 27) (Real 26) z (h.0 27 refl) (h.0 26 refl) r) (
-      plain_ok M (Constant (Real 6) (8 * length args)) L1 _ tt (λ z r. absurd r) (
-      branch_ok M Ltu (Real 5) (Real 6) out L2 _ (up_reg (Real 6) L1 (Real 5) (reg_there (Real 5) L))
-      (reg_there (Real 6) L1) (out_held L2 known h2) (
+      plain_ok M (Compute Sub (Real FIRST_SCRATCH) (Real REGION_END) (Real ALLOCATION)) L _ tt (λ z r.
+      two_read M L (Real REGION_END) (Real ALLOCATION) z (h.0 REGION_END refl) (h.0 ALLOCATION refl) r) (
+      plain_ok M (Constant (Real SECOND_SCRATCH) (8 * length args)) L1 _ tt (λ z r. absurd r) (
+      branch_ok M Ltu (Real FIRST_SCRATCH) (Real SECOND_SCRATCH) out L2 _
+        (up_reg (Real SECOND_SCRATCH) L1 (Real FIRST_SCRATCH) (reg_there (Real FIRST_SCRATCH) L))
+      (reg_there (Real SECOND_SCRATCH) L1) (out_held L2 known h2) (
       subst (Ok M L2) (sym (append_assoc (stores_items first 0 args) tail ys))
       (stores_ok M first out args 0 known L2 (tail ++ ys) h2 ka (λ K u.
       let hk : Has K first known = has_up L2 K first known u h2 in
       let K1 : Held = with_reg (Virtual (first + d)) K in
-      let six : K1 (Real 6) ≡ true = up_reg (Virtual (first + d)) K (Real 6) (u (Real 6) (reg_there (Real 6) L1)) in
+      let six : K1 (Real SECOND_SCRATCH) ≡ true = up_reg (Virtual (first + d)) K (Real SECOND_SCRATCH)
+        (u (Real SECOND_SCRATCH) (reg_there (Real SECOND_SCRATCH) L1)) in
       let h3 = set_has K known d hk in
-      plain_ok M (Move (Virtual (first + d)) (Real 26)) K _ tt (λ z r. one_read M K (Real 26) z (hk.0 26 refl) r) (
-      plain_ok M (Compute Add (Real 26) (Real 26) (Real 6)) K1 _ tt (λ z r.
-      two_read M K1 (Real 26) (Real 6) z (h3.0 26 refl) six r) (
-      good_code rest m (also d known) k _ ys (has_up K1 (with_reg (Real 26) K1) first (also d known)
-      (up_reg (Real 26) K1) h3) g.1 s go)))))))
+      plain_ok M (Move (Virtual (first + d)) (Real ALLOCATION)) K _ tt
+        (λ z r. one_read M K (Real ALLOCATION) z (hk.0 ALLOCATION refl) r) (
+      plain_ok M (Compute Add (Real ALLOCATION) (Real ALLOCATION) (Real SECOND_SCRATCH)) K1 _ tt (λ z r.
+      two_read M K1 (Real ALLOCATION) (Real SECOND_SCRATCH) z (h3.0 ALLOCATION refl) six r) (
+      good_code rest m (also d known) k _ ys (has_up K1 (with_reg (Real ALLOCATION) K1) first (also d known)
+      (up_reg (Real ALLOCATION) K1) h3) g.1 s go)))))))
   good_code (Request d a rest) m known k L ys h e s go =
       let g = parted procs n known (Request d a rest) _ k e in
       let ka : is_known known a ≡ true = read_first n known a [] g.0 in
       let code : List VirtualItem = code_items first out m rest in
-      let reg : VReg = source_reg first 7 a in
-      let tail : List VirtualItem = Compute Sub (Real 5) (Real 27) (Real 26) ∷ ComputeWith Srl (Real 5) (Real 5) 3
-      ∷ Branch Ltu (Real 5) reg out ∷ Move (Virtual (first + d)) (Real 26) ∷ code in
-      subst (Ok M L) (sym (append_assoc (source_items 7 a) tail ys)) (source_ok M first out 7 a known L _ h ka (λ K u v.
+      let reg : VReg = source_reg first THIRD_SCRATCH a in
+      let tail : List VirtualItem = Compute Sub (Real FIRST_SCRATCH) (Real REGION_END) (Real ALLOCATION)
+        ∷ ComputeWith Srl (Real FIRST_SCRATCH) (Real FIRST_SCRATCH) 3
+      ∷ Branch Ltu (Real FIRST_SCRATCH) reg out ∷ Move (Virtual (first + d)) (Real ALLOCATION) ∷ code in
+      subst (Ok M L) (sym (append_assoc (source_items THIRD_SCRATCH a) tail ys))
+        (source_ok M first out THIRD_SCRATCH a known L _ h ka (λ K u v.
       let hk : Has K first known = has_up L K first known u h in
-      let K1 : Held = with_reg (Real 5) K in
-      let K2 : Held = with_reg (Real 5) K1 in
+      let K1 : Held = with_reg (Real FIRST_SCRATCH) K in
+      let K2 : Held = with_reg (Real FIRST_SCRATCH) K1 in
       let h2 : Has K2 first known =
-      has_up K K2 first known (λ z y. up_reg (Real 5) K1 z (up_reg (Real 5) K z y)) hk in
-      plain_ok M (Compute Sub (Real 5) (Real 27) (Real 26)) K _ tt (λ z r.
-      two_read M K (Real 27) (Real 26) z (hk.0 27 refl) (hk.0 26 refl) r) (
-      plain_ok M (ComputeWith Srl (Real 5) (Real 5) 3) K1 _ tt (λ z r.
-      one_read M K1 (Real 5) z (reg_there (Real 5) K) r) (
-      branch_ok M Ltu (Real 5) reg out K2 _ (reg_there (Real 5) K1) (up_reg (Real 5) K1 reg (up_reg (Real 5) K reg v))
+      has_up K K2 first known (λ z y. up_reg (Real FIRST_SCRATCH) K1 z (up_reg (Real FIRST_SCRATCH) K z y)) hk in
+      plain_ok M (Compute Sub (Real FIRST_SCRATCH) (Real REGION_END) (Real ALLOCATION)) K _ tt (λ z r.
+      two_read M K (Real REGION_END) (Real ALLOCATION) z (hk.0 REGION_END refl) (hk.0 ALLOCATION refl) r) (
+      plain_ok M (ComputeWith Srl (Real FIRST_SCRATCH) (Real FIRST_SCRATCH) 3) K1 _ tt (λ z r.
+      one_read M K1 (Real FIRST_SCRATCH) z (reg_there (Real FIRST_SCRATCH) K) r) (
+      branch_ok M Ltu (Real FIRST_SCRATCH) reg out K2 _ (reg_there (Real FIRST_SCRATCH) K1)
+        (up_reg (Real FIRST_SCRATCH) K1 reg (up_reg (Real FIRST_SCRATCH) K reg v))
       (out_held K2 known h2) (
-      plain_ok M (Move (Virtual (first + d)) (Real 26)) K2 _ tt (λ z r. one_read M K2 (Real 26) z (h2.0 26 refl) r) (
+      plain_ok M (Move (Virtual (first + d)) (Real ALLOCATION)) K2 _ tt
+        (λ z r. one_read M K2 (Real ALLOCATION) z (h2.0 ALLOCATION refl) r) (
       good_code rest m (also d known) k _ ys (set_has K2 known d h2) g.1 s go))))))
   good_code (Take a rest) m known k L ys h e s go =
       let g = parted procs n known (Take a rest) _ k e in
       let ka : is_known known a ≡ true = read_first n known a [] g.0 in
       let code : List VirtualItem = code_items first out m rest in
-      let reg : VReg = source_reg first 7 a in
-      let tail : List VirtualItem = ComputeWith Sll (Real 5) reg 3 ∷ Compute Add (Real 26) (Real 26) (Real 5) ∷ code in
-      subst (Ok M L) (sym (append_assoc (source_items 7 a) tail ys)) (source_ok M first out 7 a known L _ h ka (λ K u v.
+      let reg : VReg = source_reg first THIRD_SCRATCH a in
+      let tail : List VirtualItem = ComputeWith Sll (Real FIRST_SCRATCH) reg 3
+        ∷ Compute Add (Real ALLOCATION) (Real ALLOCATION) (Real FIRST_SCRATCH) ∷ code in
+      subst (Ok M L) (sym (append_assoc (source_items THIRD_SCRATCH a) tail ys))
+        (source_ok M first out THIRD_SCRATCH a known L _ h ka (λ K u v.
       let hk : Has K first known = has_up L K first known u h in
-      let K1 : Held = with_reg (Real 5) K in
-      let h1 : Has K1 first known = has_up K K1 first known (up_reg (Real 5) K) hk in
-      plain_ok M (ComputeWith Sll (Real 5) reg 3) K _ tt (λ z r. one_read M K reg z v r) (
-      plain_ok M (Compute Add (Real 26) (Real 26) (Real 5)) K1 _ tt (λ z r.
-      two_read M K1 (Real 26) (Real 5) z (h1.0 26 refl) (reg_there (Real 5) K) r) (
-      good_code rest m known k _ ys (has_up K1 (with_reg (Real 26) K1) first known (up_reg (Real 26) K1) h1) g.1 s
+      let K1 : Held = with_reg (Real FIRST_SCRATCH) K in
+      let h1 : Has K1 first known = has_up K K1 first known (up_reg (Real FIRST_SCRATCH) K) hk in
+      plain_ok M (ComputeWith Sll (Real FIRST_SCRATCH) reg 3) K _ tt (λ z r. one_read M K reg z v r) (
+      plain_ok M (Compute Add (Real ALLOCATION) (Real ALLOCATION) (Real FIRST_SCRATCH)) K1 _ tt (λ z r.
+      two_read M K1 (Real ALLOCATION) (Real FIRST_SCRATCH) z (h1.0 ALLOCATION refl)
+        (reg_there (Real FIRST_SCRATCH) K) r) (
+      good_code rest m known k _ ys
+        (has_up K1 (with_reg (Real ALLOCATION) K1) first known (up_reg (Real ALLOCATION) K1) h1) g.1 s
       go))))
   good_code (LowEnvironment number a b d e rest) m known k L ys h q s go =
       let g = parted procs n known (LowEnvironment number a b d e rest) _ k q in
       let ka : is_known known a ≡ true = read_first n known a (b ∷ []) g.0 in
       let kb : is_known known b ≡ true = read_first n known b [] (read_then n known a (b ∷ []) g.0) in
-      let L1 : Held = with_reg (Real 10) L in
-      let L2 : Held = with_reg (Real 11) L1 in
-      let L3 : Held = with_reg (Real 17) L2 in
-      let L4 : Held = (λ z. among z (Real 10 ∷ Real 11 ∷ []) || L3 z) in
-      let h1 : Has L1 first known = has_up L L1 first known (up_reg (Real 10) L) h in
-      let h2 : Has L2 first known = has_up L1 L2 first known (up_reg (Real 11) L1) h1 in
-      let h3 : Has L3 first known = has_up L2 L3 first known (up_reg (Real 17) L2) h2 in
+      let L1 : Held = with_reg (Real FIRST_ARGUMENT) L in
+      let L2 : Held = with_reg (Real SECOND_ARGUMENT) L1 in
+      let L3 : Held = with_reg (Real CALL_NUMBER) L2 in
+      let L4 : Held = (λ z. among z (Real FIRST_ARGUMENT ∷ Real SECOND_ARGUMENT ∷ []) || L3 z) in
+      let h1 : Has L1 first known = has_up L L1 first known (up_reg (Real FIRST_ARGUMENT) L) h in
+      let h2 : Has L2 first known = has_up L1 L2 first known (up_reg (Real SECOND_ARGUMENT) L1) h1 in
+      let h3 : Has L3 first known = has_up L2 L3 first known (up_reg (Real CALL_NUMBER) L2) h2 in
       let h4 : Has L4 first known =
-      has_up L3 L4 first known (λ z y. or_right (among z (Real 10 ∷ Real 11 ∷ [])) (L3 z) y) h3 in
+      has_up L3 L4 first known (λ z y. or_right (among z (Real FIRST_ARGUMENT ∷ Real SECOND_ARGUMENT ∷ [])) (L3 z) y)
+        h3 in
       let L5 : Held = with_reg (Virtual (first + d)) L4 in
-      put_ok M first out (Real 10) a known L _ h ka (
-      put_ok M first out (Real 11) b known L1 _ h1 kb (
-      plain_ok M (Constant (Real 17) number) L2 _ tt (λ z y. absurd y) (
+      put_ok M first out (Real FIRST_ARGUMENT) a known L _ h ka (
+      put_ok M first out (Real SECOND_ARGUMENT) b known L1 _ h1 kb (
+      plain_ok M (Constant (Real CALL_NUMBER) number) L2 _ tt (λ z y. absurd y) (
       plain_ok M Environment L3 _ tt (λ z y. ⊎_elim (λ e0. subst (λ x. L3 x ≡ true) e0 refl)
-      (λ i. two_read M L3 (Real 10) (Real 11) z refl refl i) y) (
-      plain_ok M (Move (Virtual (first + d)) (Real 10)) L4 _ tt (λ z y. one_read M L4 (Real 10) z refl y) (
-      plain_ok M (Move (Virtual (first + e)) (Real 11)) L5 _ tt (λ z y. one_read M L5 (Real 11) z refl y) (
+      (λ i. two_read M L3 (Real FIRST_ARGUMENT) (Real SECOND_ARGUMENT) z refl refl i) y) (
+      plain_ok M (Move (Virtual (first + d)) (Real FIRST_ARGUMENT)) L4 _ tt
+        (λ z y. one_read M L4 (Real FIRST_ARGUMENT) z refl y) (
+      plain_ok M (Move (Virtual (first + e)) (Real SECOND_ARGUMENT)) L5 _ tt
+        (λ z y. one_read M L5 (Real SECOND_ARGUMENT) z refl y) (
       good_code rest m (also e (also d known)) k _ ys (set_has L5 (also d known) e (set_has L4 known d h4)) g.1 s
       go))))))
   good_code (LowCall d i args rest) m known k L ys h e s go =
       let g = parted procs n known (LowCall d i args rest) _ k e in
       let ka : are_known known args ≡ true = read_all n known args g.0 in
-      let tail : List VirtualItem = Call i (length args) ∷ Move (Virtual (first + d)) (Real 10)
+      let tail : List VirtualItem = Call i (length args) ∷ Move (Virtual (first + d)) (Real ANSWER)
       ∷ code_items first out m rest in
       subst (Ok M L) (sym (append_assoc (args_items first 0 args) tail ys))
       (args_ok M first out args 0 known L (tail ++ ys) h ka (λ K u has.
       let K1 : Held = behind_call M first out K in
       let h1 : Has K1 first known = call_has M first out K known (has_up L K first known u h) in
       call_ok M first out i (length args) K _ has (
-      plain_ok M (Move (Virtual (first + d)) (Real 10)) K1 _ tt (λ z r. one_read M K1 (Real 10) z refl r) (
+      plain_ok M (Move (Virtual (first + d)) (Real ANSWER)) K1 _ tt (λ z r. one_read M K1 (Real ANSWER) z refl r) (
       good_code rest m (also d known) k _ ys (set_has K1 known d h1) g.1 s go))))
   good_code (LowCallAt d f args rest) m known k L ys h e s go =
       let g = parted procs n known (LowCallAt d f args rest) _ k e in
       let kf : is_known known f ≡ true = read_first n known f args g.0 in
       let ka : are_known known args ≡ true = read_all n known args (read_then n known f args g.0) in
-      let reg : VReg = source_reg first 7 f in
-      let tail : List VirtualItem = CallAt reg (length args) ∷ Move (Virtual (first + d)) (Real 10)
+      let reg : VReg = source_reg first THIRD_SCRATCH f in
+      let tail : List VirtualItem = CallAt reg (length args) ∷ Move (Virtual (first + d)) (Real ANSWER)
       ∷ code_items first out m rest in
-      subst (Ok M L) (sym (append_assoc (source_items 7 f) (args_items first 0 args ++ tail) ys))
-      (source_ok M first out 7 f known L _ h kf (λ J w v.
+      subst (Ok M L) (sym (append_assoc (source_items THIRD_SCRATCH f) (args_items first 0 args ++ tail) ys))
+      (source_ok M first out THIRD_SCRATCH f known L _ h kf (λ J w v.
       subst (Ok M J) (sym (append_assoc (args_items first 0 args) tail ys))
       (args_ok M first out args 0 known J (tail ++ ys) (has_up L J first known w h) ka (λ K u has.
       let K1 : Held = behind_call M first out K in
       let h1 : Has K1 first known =
       call_has M first out K known (has_up J K first known u (has_up L J first known w h)) in
       call_at_ok M first out reg (length args) K _ (u reg v) has (
-      plain_ok M (Move (Virtual (first + d)) (Real 10)) K1 _ tt (λ z y. one_read M K1 (Real 10) z refl y) (
+      plain_ok M (Move (Virtual (first + d)) (Real ANSWER)) K1 _ tt (λ z y. one_read M K1 (Real ANSWER) z refl y) (
       good_code rest m (also d known) k _ ys (set_has K1 known d h1) g.1 s go))))))
   good_code (If cond a b one other rest) m known k L ys h e s go =
       let g = parted procs n known (If cond a b one other rest) _ k e in
@@ -576,8 +604,8 @@ module _ (M : ℕ → Held) (procs : List Proc) (n first out : ℕ) (fixed_out :
       let rest_code : List VirtualItem = code_items first out m4 rest in
       let end : List VirtualItem = Mark (suc m) ∷ rest_code in
       let mid : List VirtualItem = Jump (suc m) ∷ Mark m ∷ (one_code ++ end) in
-      let ra : VReg = source_reg first 5 a in
-      let rb : VReg = source_reg first 6 b in
+      let ra : VReg = source_reg first FIRST_SCRATCH a in
+      let rb : VReg = source_reg first SECOND_SCRATCH b in
       let all : List VirtualItem = Branch cond ra rb m ∷ (other_code ++ mid) in
       let at_end : (K : Held) → Has K first t.0 → (z : VReg) → M (suc m) z ≡ true → K z ≡ true =
       (λ K hk z y. lifted K first t.0 hk z (sym (later.0 z) ∙ y)) in
@@ -589,9 +617,10 @@ module _ (M : ℕ → Held) (procs : List Proc) (n first out : ℕ) (fixed_out :
       (λ K hk. mark_ok M (suc m) K (rest_code ++ ys) (at_end K (both_of K (has_left K x.0 x.1 hk))) end_ok) in
       let one_ok1 : Ok M (M m) ((one_code ++ end) ++ ys) =
       subst (Ok M (M m)) (sym (append_assoc one_code end ys)) one_ok in
-      subst (Ok M L) (sym (append_assoc (source_items 5 a) (source_items 6 b ++ all) ys))
-      (source_ok M first out 5 a known L _ h ka (λ K u va.
-      subst (Ok M K) (sym (append_assoc (source_items 6 b) all ys)) (source_ok M first out 6 b known K (all
+      subst (Ok M L) (sym (append_assoc (source_items FIRST_SCRATCH a) (source_items SECOND_SCRATCH b ++ all) ys))
+      (source_ok M first out FIRST_SCRATCH a known L _ h ka (λ K u va.
+      subst (Ok M K) (sym (append_assoc (source_items SECOND_SCRATCH b) all ys))
+        (source_ok M first out SECOND_SCRATCH b known K (all
       ++ ys) (has_up L K first known u h) kb (λ J w vb.
       let hj : Has J first known = has_up K J first known w (has_up L K first known u h) in
       branch_ok M cond ra rb m J ((other_code ++ mid) ++ ys) (w ra va) vb
@@ -606,10 +635,10 @@ module _ (M : ℕ → Held) (procs : List Proc) (n first out : ℕ) (fixed_out :
   good_code (LowReturn a) m known k L ys h e s go =
       let g = parted procs n known (LowReturn a) _ k e in
       let ka : is_known known a ≡ true = read_first n known a [] g.0 in
-      let L1 : Held = with_reg (Real 10) L in
-      put_ok M first out (Real 10) a known L _ h ka (
-      plain_ok M Return L1 ys tt (λ z r. one_read M L1 (Real 10) z refl r)
-      (go L1 (subst (Has L1 first) (some_known known k g.1) (has_up L L1 first known (up_reg (Real 10) L) h))))
+      let L1 : Held = with_reg (Real ANSWER) L in
+      put_ok M first out (Real ANSWER) a known L _ h ka (
+      plain_ok M Return L1 ys tt (λ z r. one_read M L1 (Real ANSWER) z refl r)
+      (go L1 (subst (Has L1 first) (some_known known k g.1) (has_up L L1 first known (up_reg (Real ANSWER) L) h))))
   good_code (LowTailCall i args) m known k L ys h e s go =
       let g = parted procs n known (LowTailCall i args) _ k e in
       let ka : are_known known args ≡ true = read_all n known args g.0 in
@@ -621,10 +650,10 @@ module _ (M : ℕ → Held) (procs : List Proc) (n first out : ℕ) (fixed_out :
       let g = parted procs n known (LowTailCallAt f args) _ k e in
       let kf : is_known known f ≡ true = read_first n known f args g.0 in
       let ka : are_known known args ≡ true = read_all n known args (read_then n known f args g.0) in
-      let reg : VReg = source_reg first 7 f in
+      let reg : VReg = source_reg first THIRD_SCRATCH f in
       let tail : List VirtualItem = TailCallAt reg (length args) ∷ [] in
-      subst (Ok M L) (sym (append_assoc (source_items 7 f) (args_items first 0 args ++ tail) ys))
-      (source_ok M first out 7 f known L _ h kf (λ J w v.
+      subst (Ok M L) (sym (append_assoc (source_items THIRD_SCRATCH f) (args_items first 0 args ++ tail) ys))
+      (source_ok M first out THIRD_SCRATCH f known L _ h kf (λ J w v.
       subst (Ok M J) (sym (append_assoc (args_items first 0 args) tail ys))
       (args_ok M first out args 0 known J _ (has_up L J first known w h) ka (λ K u has.
       plain_ok M (TailCallAt reg (length args)) K ys tt (λ z y. ⊎_elim (λ e0. subst (λ x. K x ≡ true) e0 (u reg v))
@@ -756,8 +785,8 @@ module _ (procs : List Proc) where
     params_ok (suc k) first from L xs r v go =
         let K : Held = with_reg (Virtual (first + from)) L in
         let same : suc from + k ≡ from + suc k = omega arith in
-        plain_ok M (Move (Virtual (first + from)) (Real (10 + from))) L (params_items first (suc from) k
-        ++ xs) tt (λ z y. one_read M L (Real (10 + from)) z (r (10 + from)) y)
+        plain_ok M (Move (Virtual (first + from)) (Real (FIRST_ARGUMENT + from))) L (params_items first (suc from) k
+        ++ xs) tt (λ z y. one_read M L (Real (FIRST_ARGUMENT + from)) z (r (FIRST_ARGUMENT + from)) y)
         (params_ok k first (suc from) K xs (λ i. up_reg (Virtual (first + from)) L (Real i) (r i))
         (λ i e. pick i e (i == from) refl) (λ J h. go J (subst (λ x. Has J first (λ i. nat_lt i x)) same h)))
       where
@@ -772,21 +801,24 @@ module _ (procs : List Proc) where
 
     -- where a request finds no room
     out_ok : (first out : ℕ) (L : Held) (xs : List VirtualItem) → ((z : VReg) → M out z ≡ lift first (λ i. false) z)
-        → Has L first (λ i. false) → Good M (with_reg (Real 17) (with_reg (Real 11) (with_reg (Real 10) (M out)))) xs
+        → Has L first (λ i. false)
+          → Good M (with_reg (Real CALL_NUMBER) (with_reg (Real SECOND_ARGUMENT)
+            (with_reg (Real FIRST_ARGUMENT) (M out)))) xs
         → ((K : Held) → Good M K xs) → Ok M L (out_items out ++ xs)
     out_ok first out L xs e h g more =
-        let L1 : Held = with_reg (Real 10) (M out) in
-        let L2 : Held = with_reg (Real 11) L1 in
-        let L3 : Held = with_reg (Real 17) L2 in
-        let L4 : Held = (λ z. among z (Real 10 ∷ Real 11 ∷ []) || L3 z) in
+        let L1 : Held = with_reg (Real FIRST_ARGUMENT) (M out) in
+        let L2 : Held = with_reg (Real SECOND_ARGUMENT) L1 in
+        let L3 : Held = with_reg (Real CALL_NUMBER) L2 in
+        let L4 : Held = (λ z. among z (Real FIRST_ARGUMENT ∷ Real SECOND_ARGUMENT ∷ []) || L3 z) in
         mark_ok M out L _ (λ z y. lifted L first (λ i. false) h z (sym (e z) ∙ y)) (
-        plain_ok M (Constant (Real 10) 0) (M out) _ tt (λ z y. absurd y) (
-        plain_ok M (Constant (Real 11) 0) L1 _ tt (λ z y. absurd y) (
-        plain_ok M (Constant (Real 17) 5) L2 _ tt (λ z y. absurd y) (
+        plain_ok M (Constant (Real FIRST_ARGUMENT) 0) (M out) _ tt (λ z y. absurd y) (
+        plain_ok M (Constant (Real SECOND_ARGUMENT) 0) L1 _ tt (λ z y. absurd y) (
+        plain_ok M (Constant (Real CALL_NUMBER) REGION_OUT_CALL) L2 _ tt (λ z y. absurd y) (
         plain_ok M Environment L3 _ tt (λ z y. ⊎_elim (λ e0. subst (λ x. L3 x ≡ true) e0 refl)
-        (λ i. two_read M L3 (Real 10) (Real 11) z refl refl i) y) (
-        jump_ok M out L4 xs (λ z y. or_right (among z (Real 10 ∷ Real 11 ∷ [])) (L3 z)
-        (up_reg (Real 17) L2 z (up_reg (Real 11) L1 z (up_reg (Real 10) (M out) z y)))) (more L4))))))
+        (λ i. two_read M L3 (Real FIRST_ARGUMENT) (Real SECOND_ARGUMENT) z refl refl i) y) (
+        jump_ok M out L4 xs (λ z y. or_right (among z (Real FIRST_ARGUMENT ∷ Real SECOND_ARGUMENT ∷ [])) (L3 z)
+        (up_reg (Real CALL_NUMBER) L2 z (up_reg (Real SECOND_ARGUMENT) L1 z
+          (up_reg (Real FIRST_ARGUMENT) (M out) z y)))) (more L4))))))
 
     there : (o : Option Known) → is_there o ≡ true → (k : Known) × (o ≡ Some k)
     there None e = absurd (let z : ⊥ = cc in z)
@@ -862,27 +894,29 @@ selected_good entry procs closed =
     let all : (K : Held) → Good M K (procs_items 0 0 (length procs) procs) =
     (λ K. good_procs procs M procs 0 0 (length procs) K (and_split (takes_none (slice_get procs entry))
     (each_closed procs procs) closed).1 (λ w q z. refl)) in
-    let L0 : Held = (λ z. is_reg (Real 10) z || (at_start z && is_spared z)) in
-    let L1 : Held = with_reg (Real 11) L0 in
-    let L2 : Held = with_reg (Real 10) L1 in
-    let L3 : Held = with_reg (Real 17) L2 in
-    let L4 : Held = (λ z. among z (Real 10 ∷ Real 11 ∷ []) || L3 z) in
+    let L0 : Held = (λ z. is_reg (Real ANSWER) z || (at_start z && is_spared z)) in
+    let L1 : Held = with_reg (Real SECOND_ARGUMENT) L0 in
+    let L2 : Held = with_reg (Real FIRST_ARGUMENT) L1 in
+    let L3 : Held = with_reg (Real CALL_NUMBER) L2 in
+    let L4 : Held = (λ z. among z (Real FIRST_ARGUMENT ∷ Real SECOND_ARGUMENT ∷ []) || L3 z) in
     let rest : List VirtualItem = procs_items 0 0 (length procs) procs in
     let last : Ok M L4 (Return ∷ rest) =
     record {
       next = λ z h. h;
       good = (
-        λ z y. one_read M L4 (Real 10) z refl y,
+        λ z y. one_read M L4 (Real FIRST_ARGUMENT) z refl y,
         λ f. absurd (let x : ⊥ = cc in x),
         λ m z e h. absurd (let x : ⊥ = cc in x),
         all (after Return L4),
       );
     } in
     let answer : Ok M L0 (answer_items ++ rest) =
-    plain_ok M (Move (Real 11) (Real 10)) L0 _ tt (λ z y. one_read M L0 (Real 10) z refl y)
-    (plain_ok M (Constant (Real 10) 0) L1 _ tt (λ z y. absurd y) (plain_ok M (Constant (Real 17) 0) L2 _ tt
+    plain_ok M (Move (Real SECOND_ARGUMENT) (Real ANSWER)) L0 _ tt (λ z y. one_read M L0 (Real ANSWER) z refl y)
+    (plain_ok M (Constant (Real FIRST_ARGUMENT) 0) L1 _ tt (λ z y. absurd y)
+        (plain_ok M (Constant (Real CALL_NUMBER) END_CALL) L2 _ tt
     (λ z y. absurd y) (plain_ok M Environment L3 (Return ∷ rest) tt
-    (λ z y. ⊎_elim (λ e0. subst (λ x. L3 x ≡ true) e0 refl) (λ i. two_read M L3 (Real 10) (Real 11) z refl refl i)
+    (λ z y. ⊎_elim (λ e0. subst (λ x. L3 x ≡ true) e0 refl) (λ i. two_read M L3 (Real FIRST_ARGUMENT)
+        (Real SECOND_ARGUMENT) z refl refl i)
     y) last))) in
     (λ z y. absurd y, (λ f. answer.next), (λ m z e y. absurd (let x : ⊥ = cc in x)), answer.good)
 

@@ -10,6 +10,7 @@ use Rattle.low_ir.specs.Steps.{Locals, set_local}
 use Rattle.low_ir.specs.declared.code.LowSource.{LowSource}
 use Rattle.low_ir.specs.declared.code.LowSource.TheVariants.{Word, Number}
 use Rattle.low_ir.specs.Run.{word_of, words_of, and_more, bind}
+use Rattle.rv_select.specs.declared.convention.TheConstants.{FIRST_ARGUMENT, STACK_END, ALLOCATION, REGION_END}
 use Rattle.rv_select.specs.declared.code.VReg.TheVariants.{Real, Virtual}
 use Rattle.rv_select.specs.declared.code.VirtualItem.{VirtualItem}
 use Rattle.rv_select.specs.Run.{Setting, Found, VirtualState, may_read, may_write, is_fixed, also_known, is_own}
@@ -31,17 +32,18 @@ words_cons (Some x) (Some xs) ws e = (x, xs, refl, refl, cc)
 -- the registers after words were handed on
 abbrev pub args_regs : ℕ → List ℕ → Registers → Registers
 args_regs from [] regs = regs
-args_regs from (w ∷ ws) regs = args_regs (suc from) ws (set_reg (10 + from) w regs)
+args_regs from (w ∷ ws) regs = args_regs (suc from) ws (set_reg (FIRST_ARGUMENT + from) w regs)
 
 -- and those that are known then
 abbrev pub args_known : ℕ → List ℕ → (ℕ → Bool) → ℕ → Bool
 args_known from [] known = known
-args_known from (w ∷ ws) known = args_known (suc from) ws (also_known (10 + from) known)
+args_known from (w ∷ ws) known = args_known (suc from) ws (also_known (FIRST_ARGUMENT + from) known)
 
 -- what was known stays known
 pub known_low : (ws : List ℕ) (from q : ℕ) (known : ℕ → Bool) → known q ≡ true → args_known from ws known q ≡ true
 known_low [] from q known h = h
-known_low (w ∷ ws) from q known h = known_low ws (suc from) q (also_known (10 + from) known) (kept (q == 10 + from))
+known_low (w ∷ ws) from q known h =
+    known_low ws (suc from) q (also_known (FIRST_ARGUMENT + from) known) (kept (q == FIRST_ARGUMENT + from))
   where
     kept : (c : Bool) → (c || known q) ≡ true
     kept true = refl
@@ -49,17 +51,20 @@ known_low (w ∷ ws) from q known h = known_low ws (suc from) q (also_known (10 
 
 -- each word that was moved is known
 pub known_args : (ws : List ℕ) (from i : ℕ) (known : ℕ → Bool) → from ≤ i → i < from + length ws
-    → args_known from ws known (10 + i) ≡ true
+    → args_known from ws known (FIRST_ARGUMENT + i) ≡ true
 known_args [] from i known h k = absurd (let z : ⊥ = omega (arith, h, k) in z)
 known_args (w ∷ ws) from i known h k =
-    pick (i == from) refl (λ later. known_args ws (suc from) i (also_known (10 + from) known) later (omega (arith, k)))
+    pick (i == from) refl (λ later. known_args ws (suc from) i (also_known (FIRST_ARGUMENT + from) known) later
+        (omega (arith, k)))
   where
     pick : (c : Bool) → (i == from) ≡ c
-        → (suc from ≤ i → args_known (suc from) ws (also_known (10 + from) known) (10 + i) ≡ true)
-        → args_known from (w ∷ ws) known (10 + i) ≡ true
+        → (suc from ≤ i
+          → args_known (suc from) ws (also_known (FIRST_ARGUMENT + from) known) (FIRST_ARGUMENT + i) ≡ true)
+        → args_known from (w ∷ ws) known (FIRST_ARGUMENT + i) ≡ true
     pick true e ih =
-        let same : (10 + i == 10 + from) ≡ true = grind arith in
-        known_low ws (suc from) (10 + i) (also_known (10 + from) known) (ap (λ c. c || known (10 + i)) same)
+        let same : (FIRST_ARGUMENT + i == FIRST_ARGUMENT + from) ≡ true = grind arith in
+        known_low ws (suc from) (FIRST_ARGUMENT + i) (also_known (FIRST_ARGUMENT + from) known)
+        (ap (λ c. c || known (FIRST_ARGUMENT + i)) same)
     pick false e ih = let later : suc from ≤ i = grind arith in ih later
 
 -- as many words as sources
@@ -73,63 +78,65 @@ words_length l (a ∷ args) ws e =
 -- words stand in registers from this one on
 abbrev pub HasArgs : Registers → ℕ → List ℕ → Type 0
 HasArgs regs from [] = Unit {0}
-HasArgs regs from (w ∷ ws) = (get_reg regs (10 + from) ≡ w) × HasArgs regs (suc from) ws
+HasArgs regs from (w ∷ ws) = (get_reg regs (FIRST_ARGUMENT + from) ≡ w) × HasArgs regs (suc from) ws
 
 other_reg : (r q word : ℕ) (regs : Registers) → (q == r) ≡ false → set_reg r word regs q ≡ regs q
 other_reg r q word regs h = rw h refl
 
-same_reg : (from word : ℕ) (regs : Registers) → set_reg (10 + from) word regs (10 + from) ≡ word
+same_reg : (from word : ℕ) (regs : Registers) → set_reg (FIRST_ARGUMENT + from) word regs (FIRST_ARGUMENT + from) ≡ word
 same_reg from word regs =
-    let a : (10 + from == 10 + from) ≡ true = grind arith in
-    let b : (10 + from == 0) ≡ false = grind arith in rw (a, b) refl
+    let a : (FIRST_ARGUMENT + from == FIRST_ARGUMENT + from) ≡ true = grind arith in
+    let b : (FIRST_ARGUMENT + from == 0) ≡ false = grind arith in rw (a, b) refl
 
-get_arg : (from : ℕ) (regs : Registers) → get_reg regs (10 + from) ≡ regs (10 + from)
-get_arg from regs = let b : (10 + from == 0) ≡ false = grind arith in rw b refl
+get_arg : (from : ℕ) (regs : Registers) → get_reg regs (FIRST_ARGUMENT + from) ≡ regs (FIRST_ARGUMENT + from)
+get_arg from regs = let b : (FIRST_ARGUMENT + from == 0) ≡ false = grind arith in rw b refl
 
-differ : (q from : ℕ) → q < 10 + from → (q == 10 + from) ≡ false
+differ : (q from : ℕ) → q < FIRST_ARGUMENT + from → (q == FIRST_ARGUMENT + from) ≡ false
 differ q from h = grind arith
 
-differ_high : (q from n : ℕ) → from + suc n ≤ 8 → 18 ≤ q → (q == 10 + from) ≡ false
+differ_high : (q from n : ℕ) → from + suc n ≤ 8 → 18 ≤ q → (q == FIRST_ARGUMENT + from) ≡ false
 differ_high q from n h k = grind arith
 
 -- registers below those stay
-pub args_low : (ws : List ℕ) (from q : ℕ) (regs : Registers) → q < 10 + from → args_regs from ws regs q ≡ regs q
+pub args_low : (ws : List ℕ) (from q : ℕ) (regs : Registers) → q < FIRST_ARGUMENT + from
+    → args_regs from ws regs q ≡ regs q
 args_low [] from q regs h = refl
 args_low (w ∷ ws) from q regs h =
-    args_low ws (suc from) q (set_reg (10 + from) w regs) (omega arith)
-    ∙ other_reg (10 + from) q w regs (differ q from h)
+    args_low ws (suc from) q (set_reg (FIRST_ARGUMENT + from) w regs) (omega arith)
+    ∙ other_reg (FIRST_ARGUMENT + from) q w regs (differ q from h)
 
 -- registers above those stay
 pub args_high : (ws : List ℕ) (from q : ℕ) (regs : Registers) → from + length ws ≤ 8 → 18 ≤ q
     → args_regs from ws regs q ≡ regs q
 args_high [] from q regs h k = refl
 args_high (w ∷ ws) from q regs h k =
-    args_high ws (suc from) q (set_reg (10 + from) w regs) (omega arith) k
-    ∙ other_reg (10 + from) q w regs (differ_high q from (length ws) h k)
+    args_high ws (suc from) q (set_reg (FIRST_ARGUMENT + from) w regs) (omega arith) k
+    ∙ other_reg (FIRST_ARGUMENT + from) q w regs (differ_high q from (length ws) h k)
 
 -- and so do x25, x26 and x27
 pub args_fixed : (ws : List ℕ) (regs : Registers) → length ws ≤ 8 → SameFixed (args_regs 0 ws regs) regs
 args_fixed ws regs h = record {
-  stack = args_high ws 0 25 regs (omega (arith, h)) (omega arith);
-  alloc = args_high ws 0 26 regs (omega (arith, h)) (omega arith);
-  top = args_high ws 0 27 regs (omega (arith, h)) (omega arith);
+  stack = args_high ws 0 STACK_END regs (omega (arith, h)) (omega arith);
+  alloc = args_high ws 0 ALLOCATION regs (omega (arith, h)) (omega arith);
+  top = args_high ws 0 REGION_END regs (omega (arith, h)) (omega arith);
 }
 
 arg_fixed : (from word : ℕ) (regs : Registers) (n : ℕ) → from + suc n ≤ 8
-    → SameFixed (set_reg (10 + from) word regs) regs
+    → SameFixed (set_reg (FIRST_ARGUMENT + from) word regs) regs
 arg_fixed from word regs n h = record {
-  stack = other_reg (10 + from) 25 word regs (differ_high 25 from n h (omega arith));
-  alloc = other_reg (10 + from) 26 word regs (differ_high 26 from n h (omega arith));
-  top = other_reg (10 + from) 27 word regs (differ_high 27 from n h (omega arith));
+  stack = other_reg (FIRST_ARGUMENT + from) STACK_END word regs (differ_high STACK_END from n h (omega arith));
+  alloc = other_reg (FIRST_ARGUMENT + from) ALLOCATION word regs (differ_high ALLOCATION from n h (omega arith));
+  top = other_reg (FIRST_ARGUMENT + from) REGION_END word regs (differ_high REGION_END from n h (omega arith));
 }
 
 -- the words stand where they are handed on
 pub has_args : (ws : List ℕ) (from : ℕ) (regs : Registers) → HasArgs (args_regs from ws regs) from ws
 has_args [] from regs = tt
 has_args (w ∷ ws) from regs = (
-  get_arg from (args_regs (suc from) ws (set_reg (10 + from) w regs))
-      ∙ (args_low ws (suc from) (10 + from) (set_reg (10 + from) w regs) (omega arith) ∙ same_reg from w regs),
-  has_args ws (suc from) (set_reg (10 + from) w regs),
+  get_arg from (args_regs (suc from) ws (set_reg (FIRST_ARGUMENT + from) w regs))
+      ∙ (args_low ws (suc from) (FIRST_ARGUMENT + from) (set_reg (FIRST_ARGUMENT + from) w regs) (omega arith)
+        ∙ same_reg from w regs),
+  has_args ws (suc from) (set_reg (FIRST_ARGUMENT + from) w regs),
 )
 
 -- ---- words out of registers
@@ -138,7 +145,7 @@ has_args (w ∷ ws) from regs = (
 abbrev pub params_locals : ℕ → ℕ → ℕ → Registers → Locals → Locals
 params_locals first from zero regs L = L
 params_locals first from (suc n) regs L =
-    params_locals first (suc from) n regs (set_local (first + from) (get_reg regs (10 + from)) L)
+    params_locals first (suc from) n regs (set_local (first + from) (get_reg regs (FIRST_ARGUMENT + from)) L)
 
 shifted : (first i d : ℕ) → (first + i == first + d) ≡ (i == d)
 shifted first i d = grind arith
@@ -156,16 +163,17 @@ bound [] first from zero regs L l e h k i = h i
 bound [] first from (suc n) regs L l e h k i = absurd (omega (arith, e))
 bound (w ∷ ws) first from zero regs L l e h k i = absurd (omega (arith, e))
 bound (w ∷ ws) first from (suc n) regs L l e h k i =
-    bound ws first (suc from) n regs (set_local (first + from) (get_reg regs (10 + from)) L) (set_local from w l)
+    bound ws first (suc from) n regs (set_local (first + from) (get_reg regs (FIRST_ARGUMENT + from)) L)
+        (set_local from w l)
     (omega (arith, e)) (λ j. ap (λ x. set_local (first + from) x L (first + j)) k.0
     ∙ set_shifted first from w j L l (h j)) k.1 i
 
 -- ---- the items
 
-readable : (from n : ℕ) → from + suc n ≤ 8 → may_read (10 + from) ≡ true
+readable : (from n : ℕ) → from + suc n ≤ 8 → may_read (FIRST_ARGUMENT + from) ≡ true
 readable from n h = grind arith
 
-writable : (from n : ℕ) → from + suc n ≤ 8 → may_write (10 + from) ≡ true
+writable : (from n : ℕ) → from + suc n ≤ 8 → may_write (FIRST_ARGUMENT + from) ≡ true
 writable from n h = grind arith
 
 module _ {V : Type 0} (reading : Halt → Ending V) (setting : Setting) where
@@ -208,7 +216,7 @@ module _ {V : Type 0} (reading : Halt → Ending V) (setting : Setting) where
         (record t { regs = args_regs from xs t.regs; known = args_known from xs t.known })) (sym same) r
     hands (a ∷ args) ws from t e h f s p r =
         let c = words_cons (word_of l a) (words_of l args) ws e in
-        let t1 : VirtualState = wrote_real (10 + from) c.0 t in
+        let t1 : VirtualState = wrote_real (FIRST_ARGUMENT + from) c.0 t in
         let f1 : from + length (c.0 ∷ c.1) ≤ 8 = subst (λ xs. from + length xs ≤ 8) c.4 f in
         let r1 : PaidWay reading setting P Q k left (record t {
           regs = args_regs from (c.0 ∷ c.1) t.regs;
@@ -226,7 +234,8 @@ module _ {V : Type 0} (reading : Halt → Ending V) (setting : Setting) where
         let f2 : from + suc (length c.1) ≤ 8 = omega (arith, f1) in
         let f3 : suc from + length c.1 ≤ 8 = omega (arith, f1) in
         does_item reading setting P Q (more args k) (prices setting t.active.found
-        (args_items t.active.found.first (suc from) args) left) t t1 _ s.0 (put_real t l (10 + from) a c.0 c.2 h
+        (args_items t.active.found.first (suc from) args) left) t t1 _ s.0
+          (put_real t l (FIRST_ARGUMENT + from) a c.0 c.2 h
         (writable from (length c.1) f2)) (p t.regs t.known t.pc (fixed_self t.regs)) (
         hands args c.1 (suc from) t1 c.3 h f3 s.1 (λ regs known pc q.
         p regs known pc (also_fixed q (arg_fixed from c.0 t.regs (length c.1) f2))) r1)
@@ -251,7 +260,8 @@ module _ {V : Type 0} (reading : Halt → Ending V) (setting : Setting) where
 
   module _ (P : VirtualState → Type 0) (Q : ℕ → VirtualState → Type 0) (rest : List VirtualItem) (k left : ℕ) where
     -- parameters are taken, one step each
-    pub takes : (n from : ℕ) (t : VirtualState) → ((i : ℕ) → from ≤ i → i < from + n → t.known (10 + i) ≡ true)
+    pub takes : (n from : ℕ) (t : VirtualState)
+        → ((i : ℕ) → from ≤ i → i < from + n → t.known (FIRST_ARGUMENT + i) ≡ true)
         → from + n ≤ 8 → from + n ≤ t.active.found.count
         → Stands reading setting t.pc (params_items t.active.found.first from n ++ rest)
         → ((L : Locals) (pc : ℕ) → P (record t { active = record t.active { locals = L }; pc = pc }))
@@ -265,14 +275,16 @@ module _ {V : Type 0} (reading : Halt → Ending V) (setting : Setting) where
         (prices setting t.active.found (params_items t.active.found.first from n) left) t
     takes zero from t kn f g s p r = r
     takes (suc n) from t kn f g s p r =
-        let word : ℕ = get_reg t.regs (10 + from) in
+        let word : ℕ = get_reg t.regs (FIRST_ARGUMENT + from) in
         let t1 : VirtualState = wrote_local (t.active.found.first + from) word t in
         does_item reading setting P Q (plus_steps n k) (prices setting t.active.found
         (params_items t.active.found.first (suc from) n) left) t t1 _ s.0 (move_local reading setting t
-        (t.active.found.first + from) (Real (10 + from)) word
-        (ap (λ b. if b && (is_fixed (10 + from) || t.known (10 + from)) then Some word else None)
+        (t.active.found.first + from) (Real (FIRST_ARGUMENT + from)) word
+        (ap (λ b. if b && (is_fixed (FIRST_ARGUMENT + from) || t.known (FIRST_ARGUMENT + from)) then Some word else
+          None)
         (readable from n f) ∙ ap (λ b. if b then Some word else None)
-        (or_known (is_fixed (10 + from)) (kn from (omega arith) (omega arith)))) (own t.active.found from n g))
+        (or_known (is_fixed (FIRST_ARGUMENT + from)) (kn from (omega arith) (omega arith))))
+          (own t.active.found from n g))
         (p t.active.locals t.pc) (
         takes n (suc from) t1 (λ i h k. kn i (omega (arith, h)) (omega (arith, k))) (omega (arith, f))
         (omega (arith, g)) s.1 (λ L pc. p L pc) r)

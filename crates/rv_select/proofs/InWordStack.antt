@@ -22,6 +22,7 @@ use Rattle.low_ir.specs.Operations.{compute}
 use Rattle.low_ir.specs.declared.code.LowSource.{LowSource}
 use Rattle.low_ir.specs.Run.{enter_some, waits, answers, falls, code_step, low_machine, low_start}
 use Rattle.low_ir.specs.Prices.{low_price}
+use Rattle.rv_select.specs.declared.convention.TheConstants.{STACK_END, ALLOCATION, REGION_END}
 use Rattle.rv_select.specs.declared.code.VirtualItem.{VirtualItem}
 use Rattle.rv_select.specs.Run.{VirtualState, Shown, virtual_machine, virtual_start}
 use Rattle.rv_select.specs.Prices.{start_price, virtual_price}
@@ -581,7 +582,7 @@ module _ {V : Type 0} (reading : Halt → Ending V) (low : LowSetting) (items : 
 module _ {V : Type 0} (reading : Halt → Ending V) (low : LowSetting) (entry : ℕ) (p : Proc) (regs : Registers)
     (memory : Memory) (world : WorldState) (room : ℕ) (small : low.top < 2 ^ 64) (fits : low.region ≤ low.top)
     (even : low.region % 8 ≡ 0) (found : slice_get low.procs entry ≡ Some p) (none : p.params ≡ 0)
-    (alloc : regs 26 ≡ low.region) (top : regs 27 ≡ low.top) (lacking : reading (Lacks Stack) ≢ Wrong)
+    (alloc : regs ALLOCATION ≡ low.region) (top : regs REGION_END ≡ low.top) (lacking : reading (Lacks Stack) ≢ Wrong)
     (never : NeverWrong (run (low_machine reading low) (low_start low p memory world))) where
   abbrev code : List VirtualItem
   code = select_items entry low.procs
@@ -592,12 +593,12 @@ module _ {V : Type 0} (reading : Halt → Ending V) (low : LowSetting) (entry : 
   abbrev t0 : VirtualState
   t0 = virtual_start regs memory world
 
-  laid_out : Laid (program reading low code (regs 25) small room)
+  laid_out : Laid (program reading low code (regs STACK_END) small room)
   laid_out = all reading low entry p regs memory world small fits even found none alloc top
 
-  first : Alike (SameRegion (regs 25) low.top) (low_machine reading low)
+  first : Alike (SameRegion (regs STACK_END) low.top) (low_machine reading low)
       (virtual_machine reading (setting_of low code)) s0 t0
-  first = as_alike (program reading low code (regs 25) small room) s0 t0 (
+  first = as_alike (program reading low code (regs STACK_END) small room) s0 t0 (
     (λ at h. refl),
     alloc,
     (omega arith, omega arith),
@@ -607,26 +608,28 @@ module _ {V : Type 0} (reading : Halt → Ending V) (low : LowSetting) (entry : 
     top,
   )
 
-  begun : (j : ℕ) × (j ≤ 1) × Pays (NS reading low code (regs 25) small room) (virtual_price (setting_of low code))
-      (Alike (SameRegion (regs 25) low.top) (MS reading low code (regs 25) small room)
-      (NS reading low code (regs 25) small room) s0) (In reading low code (regs 25) small room s0) j start_price t0
-  begun = first_in_stack reading low code (regs 25) small room start_price s0 t0 (omega arith)
+  begun : (j : ℕ) × (j ≤ 1)
+      × Pays (NS reading low code (regs STACK_END) small room) (virtual_price (setting_of low code))
+      (Alike (SameRegion (regs STACK_END) low.top) (MS reading low code (regs STACK_END) small room)
+      (NS reading low code (regs STACK_END) small room) s0) (In reading low code (regs STACK_END) small room s0) j
+        start_price t0
+  begun = first_in_stack reading low code (regs STACK_END) small room start_price s0 t0 (omega arith)
       (starts reading low entry p regs memory world small fits even found none alloc top
-      (Way reading low code (regs 25) small room s0 s0) (inl first, tt))
+      (Way reading low code (regs STACK_END) small room s0 s0) (inl first, tt))
 
-  never_in_stack : NeverWrong (run (MS reading low code (regs 25) small room) s0)
+  never_in_stack : NeverWrong (run (MS reading low code (regs STACK_END) small room) s0)
   never_in_stack = low_never_wrong reading low room lacking s0 never
 
-  pub costs_in_stack : FollowsBy (OfRest (SameRegion (regs 25) low.top)) (Spends 1)
+  pub costs_in_stack : FollowsBy (OfRest (SameRegion (regs STACK_END) low.top)) (Spends 1)
       (run (metered (virtual_price (setting_of low code)) (stacked_machine reading (setting_of low code) room))
       (unspent t0))
       (run (metered (low_price low.procs) (low_in_stack reading low room))
       (record { spent = start_price; rest = s0 }))
   costs_in_stack =
-      follows_paid (simulates_in_stack reading low code (regs 25) small room laid_out) start_price s0 begun.0 t0
+      follows_paid (simulates_in_stack reading low code (regs STACK_END) small room laid_out) start_price s0 begun.0 t0
       begun.2 never_in_stack
 
-  pub follows_in_stack : FollowsBy (SameRegion (regs 25) low.top) Any
+  pub follows_in_stack : FollowsBy (SameRegion (regs STACK_END) low.top) Any
       (run (stacked_machine reading (setting_of low code) room) t0) (run (low_in_stack reading low room) s0)
   follows_in_stack =
       unmetered (low_in_stack reading low room) (stacked_machine reading (setting_of low code) room)

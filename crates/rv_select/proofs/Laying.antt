@@ -12,6 +12,8 @@ use Rattle.low_ir.specs.Procedures.{Call as LowCall, CallAt as LowCallAt, If, Re
 use Rattle.low_ir.specs.Procedures.{TailCall as LowTailCall, TailCallAt as LowTailCallAt, Proc}
 use Rattle.low_ir.specs.declared.code.WordOp.{WordOp}
 use Rattle.low_ir.specs.Run.{Setting as LowSetting, proc_from}
+use Rattle.rv_select.specs.declared.convention.TheConstants.{FIRST_SCRATCH, SECOND_SCRATCH, THIRD_SCRATCH}
+use Rattle.rv_select.specs.declared.convention.TheConstants.{FIRST_ARGUMENT, SECOND_ARGUMENT, ANSWER}
 use Rattle.rv_select.specs.declared.code.VReg.{VReg}
 use Rattle.rv_select.specs.declared.code.VReg.TheVariants.{Real, Virtual}
 use Rattle.rv_select.specs.declared.code.VirtualItem.{VirtualItem}
@@ -72,7 +74,7 @@ put_body first rd (Number n) = tt
 
 args_body : (first from : ℕ) (args : List LowSource) → AreBody (args_items first from args)
 args_body first from [] = tt
-args_body first from (a ∷ args) = (put_body first (Real (10 + from)) a, args_body first (suc from) args)
+args_body first from (a ∷ args) = (put_body first (Real (FIRST_ARGUMENT + from)) a, args_body first (suc from) args)
 
 params_body : (first from n : ℕ) → AreBody (params_items first from n)
 params_body first from zero = tt
@@ -81,7 +83,7 @@ params_body first from (suc n) = (tt, params_body first (suc from) n)
 stores_body : (first offset : ℕ) (args : List LowSource) → AreBody (stores_items first offset args)
 stores_body first offset [] = tt
 stores_body first offset (a ∷ args) =
-    body_append (source_items 5 a) _ (source_body 5 a) (tt, stores_body first (offset + 8) args)
+    body_append (source_items FIRST_SCRATCH a) _ (source_body FIRST_SCRATCH a) (tt, stores_body first (offset + 8) args)
 
 module _ (first out : ℕ) where
   with_source : (r : ℕ) (a : LowSource) (xs : List VirtualItem) → AreBody xs → AreBody (source_items r a ++ xs)
@@ -93,15 +95,16 @@ module _ (first out : ℕ) where
   with_compute : (c : Bool) (op : WordOp) (rd : VReg) (a b : LowSource) (xs : List VirtualItem) → AreBody xs
       → AreBody (second_items c b ++ (compute_item c first op rd a b ∷ xs))
   with_compute true op rd a b xs h = (tt, h)
-  with_compute false op rd a b xs h = with_source 6 b _ (tt, h)
+  with_compute false op rd a b xs h = with_source SECOND_SCRATCH b _ (tt, h)
 
   code_body : (c : Code) (m : ℕ) → AreBody (code_items first out m c)
   code_body Done m = tt
   code_body (Set d a rest) m = (put_body first (Virtual (first + d)) a, code_body rest m)
   code_body (LowCompute op d a b rest) m =
-      with_source 5 a _ (with_compute (is_small op b) op (Virtual (first + d)) a b _ (code_body rest m))
-  code_body (LowLoad d a offset rest) m = with_source 5 a _ (tt, code_body rest m)
-  code_body (LowStore b a offset rest) m = with_source 5 a _ (with_source 6 b _ (tt, code_body rest m))
+      with_source FIRST_SCRATCH a _ (with_compute (is_small op b) op (Virtual (first + d)) a b _ (code_body rest m))
+  code_body (LowLoad d a offset rest) m = with_source FIRST_SCRATCH a _ (tt, code_body rest m)
+  code_body (LowStore b a offset rest) m = with_source FIRST_SCRATCH a _
+      (with_source SECOND_SCRATCH b _ (tt, code_body rest m))
   code_body (LowCodeOf d k rest) m = (tt, code_body rest m)
   code_body (Build d args rest) m = (
     tt,
@@ -116,14 +119,15 @@ module _ (first out : ℕ) where
       ),
     ),
   )
-  code_body (Request d a rest) m = with_source 7 a _ (tt, (tt, (tt, (tt, code_body rest m))))
-  code_body (Take a rest) m = with_source 7 a _ (tt, (tt, code_body rest m))
+  code_body (Request d a rest) m = with_source THIRD_SCRATCH a _ (tt, (tt, (tt, (tt, code_body rest m))))
+  code_body (Take a rest) m = with_source THIRD_SCRATCH a _ (tt, (tt, code_body rest m))
   code_body (LowEnvironment number a b d e rest) m =
-      (put_body first (Real 10) a, (put_body first (Real 11) b, (tt, (tt, (tt, (tt, code_body rest m))))))
+      (put_body first (Real FIRST_ARGUMENT) a, (put_body first (Real SECOND_ARGUMENT) b,
+        (tt, (tt, (tt, (tt, code_body rest m))))))
   code_body (LowCall d k args rest) m = with_args args _ (tt, (tt, code_body rest m))
-  code_body (LowCallAt d f args rest) m = with_source 7 f _ (with_args args _ (tt, (tt, code_body rest m)))
+  code_body (LowCallAt d f args rest) m = with_source THIRD_SCRATCH f _ (with_args args _ (tt, (tt, code_body rest m)))
   code_body (If cond a b one other rest) m =
-      with_source 5 a _ (with_source 6 b _ (
+      with_source FIRST_SCRATCH a _ (with_source SECOND_SCRATCH b _ (
         tt,
         body_append (code_items first out (suc (suc m)) other) _
             (code_body other (suc (suc m))) (
@@ -138,9 +142,9 @@ module _ (first out : ℕ) where
               ),
             ),
       ))
-  code_body (LowReturn a) m = (put_body first (Real 10) a, (tt, tt))
+  code_body (LowReturn a) m = (put_body first (Real ANSWER) a, (tt, tt))
   code_body (LowTailCall k args) m = with_args args _ (tt, tt)
-  code_body (LowTailCallAt f args) m = with_source 7 f _ (with_args args _ (tt, tt))
+  code_body (LowTailCallAt f args) m = with_source THIRD_SCRATCH f _ (with_args args _ (tt, tt))
 
 -- nothing in the body of a procedure begins another
 pub body_is_body : (first mark : ℕ) (p : Proc) → AreBody (body_items first mark p)

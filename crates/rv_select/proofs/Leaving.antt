@@ -14,6 +14,8 @@ use Rattle.low_ir.specs.Procedures.{Return as LowReturn, TailCall as LowTailCall
 use Rattle.low_ir.specs.Run.{Waiting, LowState, word_of, words_of, with_local, proc_from, answers, code_step}
 use Rattle.low_ir.specs.Run.{held_by as words_held}
 use Rattle.low_ir.specs.Prices.{leaving, step_price}
+use Rattle.rv_select.specs.declared.convention.TheConstants.{THIRD_SCRATCH, FIRST_ARGUMENT, SECOND_ARGUMENT, ANSWER}
+use Rattle.rv_select.specs.declared.convention.TheConstants.{CALL_NUMBER, END_CALL}
 use Rattle.rv_select.specs.declared.code.VReg.TheVariants.{Real, Virtual}
 use Rattle.rv_select.specs.declared.code.VirtualItem.{VirtualItem}
 use Rattle.rv_select.specs.declared.code.VirtualItem.TheVariants.{Constant, Move, TailCall, TailCallAt, Return}
@@ -119,9 +121,9 @@ module _ {V : Type 0} (program : Program V) where
       let from : Found = t.active.found in
       let purse : ℕ = purse_of program s (LowTailCallAt a args) in
       let first : ℕ = t.active.found.first in
-      let item : VirtualItem = TailCallAt (source_reg first 7 a) (length args) in
+      let item : VirtualItem = TailCallAt (source_reg first THIRD_SCRATCH a) (length args) in
       let tail : List VirtualItem = args_items first 0 args ++ (item ∷ []) in
-      let pc : ℕ = beyond (source_items 7 a) t.pc in
+      let pc : ℕ = beyond (source_items THIRD_SCRATCH a) t.pc in
       sim_given program purse s s t (word_of s.active.locals a) _ (λ at ae.
       sim_given program purse s s t (words_of s.active.locals args) _ (λ ws e.
       sim_given program purse s s t (proc_from program.low.address at 0 program.low.procs) _ (λ p pe.
@@ -136,11 +138,11 @@ module _ {V : Type 0} (program : Program V) where
       let later : ℕ = entering_paid program from l.0 args item p.params (owed s.waiting) in (
         fetches a total,
         inl (let z = fetches_ge a total in omega (arith, steps, z)),
-        prices (setting program) from (source_items 7 a) later,
-        (let i = source_paid (setting program) from 7 a later in
+        prices (setting program) from (source_items THIRD_SCRATCH a) later,
+        (let i = source_paid (setting program) from THIRD_SCRATCH a later in
             let j = enters_paid program from l.0 args ws item p.params (owed s.waiting) many f3.0 f3.1 in
             let c = given_up s t on in omega (arith, i, j, c)),
-        fetch program.reading (setting program) (Way program s s1) (At program s1) s.active.locals 7 (
+        fetch program.reading (setting program) (Way program s s1) (At program s1) s.active.locals THIRD_SCRATCH (
           refl,
           refl,
           refl,
@@ -148,10 +150,10 @@ module _ {V : Type 0} (program : Program V) where
         ) a at t tail total later ae on.active.locals lies.stands (way_first program s s1 t on.body)
             (λ regs known kept va.
             tail_from s t on args ws p l.0 item regs known pc (kept_fixed kept refl refl refl) l.2 e
-            (stands_past program.reading (setting program) (source_items 7 a) tail t.pc lies.stands)
+            (stands_past program.reading (setting program) (source_items THIRD_SCRATCH a) tail t.pc lies.stands)
             (framed_is s.waiting t.frames _ _ on.behind
             ∙ (given_is _ _ at _ (args_kept program ws 0 (record t { regs = regs; known = known; pc = pc })
-            (beyond (args_items first 0 args) pc) (source_reg first 7 a) at (no_arg program first a) va)
+            (beyond (args_items first 0 args) pc) (source_reg first THIRD_SCRATCH a) at (no_arg program first a) va)
             ∙ given_is _ _ l.0 _ l.1)) f3.0 f3.1 f3.2),
       )))))
 
@@ -176,32 +178,33 @@ module _ {V : Type 0} (program : Program V) where
       found = t.active.found
 
       put : VirtualItem
-      put = put_item found.first (Real 10) a
+      put = put_item found.first (Real ANSWER) a
 
       with_answer : ℕ → ℕ
       with_answer left = item_price (setting program) found put + (item_price (setting program) found Return + left)
 
       answer_paid : (left : ℕ) → with_answer left ≤ step_price program.low.procs s.active.count (LowReturn a) + left
       answer_paid left =
-          let p = put_paid (setting program) found (Real 10) a in
+          let p = put_paid (setting program) found (Real ANSWER) a in
           let q = given_up s t on in omega (arith, p, q)
 
       back : (x : ℕ) → word_of s.active.locals a ≡ Some x → (f : Frame) (fs : List Frame) → t.frames ≡ f ∷ fs
           → (s1 : LowState) (Q : ℕ → VirtualState → Type 0) (k left : ℕ)
           → PaidWay program.reading (setting program) (Way program s s1) Q k left (record t {
-            regs = set_reg 10 x t.regs;
+            regs = set_reg ANSWER x t.regs;
             known =
-                only_answer (also_known 10 t.known);
+                only_answer (also_known ANSWER t.known);
             pc = f.back;
             active = f.active;
             frames = fs;
           })
           → PaidWay program.reading (setting program) (Way program s s1) Q (suc (suc k)) (with_answer left) t
       back x e f fs fe s1 Q k left r =
-          let t1 : VirtualState = wrote_real 10 x t in
+          let t1 : VirtualState = wrote_real ANSWER x t in
           does_item program.reading (setting program) (Way program s s1) Q (suc k)
           (item_price (setting program) found Return + left) t t1 put
-          lies.stands.0 (put_real program.reading (setting program) t s.active.locals 10 a x e on.active.locals refl)
+          lies.stands.0 (put_real program.reading (setting program) t s.active.locals ANSWER a x e on.active.locals
+            refl)
           (way_first program s s1 t on.body) (
           does_item program.reading (setting program) (Way program s s1) Q k left t1 (record t1 {
             pc = f.back;
@@ -218,15 +221,15 @@ module _ {V : Type 0} (program : Program V) where
       returned x e [] [] we fe h n = absurd h
       returned x e [] (f ∷ []) we fe h n =
           let t2 : VirtualState = record t {
-            regs = set_reg 10 x t.regs;
-            known = only_answer (also_known 10 t.known);
+            regs = set_reg ANSWER x t.regs;
+            known = only_answer (also_known ANSWER t.known);
             pc = f.back;
             active = f.active;
             frames = [];
           } in
-          let t3 : VirtualState = wrote_real 11 x t2 in
-          let t4 : VirtualState = wrote_real 10 0 t3 in
-          let t5 : VirtualState = wrote_real 17 0 t4 in
+          let t3 : VirtualState = wrote_real SECOND_ARGUMENT x t2 in
+          let t4 : VirtualState = wrote_real FIRST_ARGUMENT 0 t3 in
+          let t5 : VirtualState = wrote_real CALL_NUMBER END_CALL t4 in
           let end = program.reading (Ended (Answer (record { kind = IntKind; word = cast_signed w64 x }))) in
           let Q : ℕ → VirtualState → Type 0 = Ends program s s end in
           let sn0 : SeenAs program s t = seen program s t on.body in
@@ -237,13 +240,13 @@ module _ {V : Type 0} (program : Program V) where
             (let p = answer_paid 6 in let q = end_is_owed s.waiting in omega (arith, p, q)),
             back x e f [] fe s Q 3 6 (
                 does_item program.reading (setting program) (Way program s s) Q 2 5 t2 t3
-                (Move (Real 11) (Real 10)) h.0 refl
+                (Move (Real SECOND_ARGUMENT) (Real ANSWER)) h.0 refl
                 (way_seen program s s t2 sn) (
                 does_item program.reading (setting program) (Way program s s) Q 1 3 t3 t4
-                (Constant (Real 10) 0) h.1.0 refl
+                (Constant (Real FIRST_ARGUMENT) 0) h.1.0 refl
                 (way_seen program s s t3 sn) (
                 does_item program.reading (setting program) (Way program s s) Q 0 1 t4 t5
-                (Constant (Real 17) 0) h.1.1.0 refl
+                (Constant (Real CALL_NUMBER) END_CALL) h.1.1.0 refl
                 (way_seen program s s t4 sn) (
                   (
                     way_seen program s s t5 sn,
@@ -264,8 +267,8 @@ module _ {V : Type 0} (program : Program V) where
           let first : ℕ = f.active.found.first in
           let s1 : LowState = record s { active = with_local w.answer x w.rest; waiting = ws } in
           let t2 : VirtualState = record t {
-            regs = set_reg 10 x t.regs;
-            known = only_answer (also_known 10 t.known);
+            regs = set_reg ANSWER x t.regs;
+            known = only_answer (also_known ANSWER t.known);
             pc = f.back;
             active = f.active;
             frames = fs;
@@ -286,7 +289,7 @@ module _ {V : Type 0} (program : Program V) where
             on.body.7,
             on.body.8,
           ) in
-          let item : VirtualItem = Move (Virtual (first + w.answer)) (Real 10) in
+          let item : VirtualItem = Move (Virtual (first + w.answer)) (Real ANSWER) in
           let left : ℕ = item_price (setting program) f.active.found item + owed ws in (
             3,
             inl (omega arith),
@@ -297,7 +300,7 @@ module _ {V : Type 0} (program : Program V) where
             back x e f fs fe s1 (At program s1) 1 left (
                 does_item program.reading (setting program) (Way program s s1) (At program s1) 0
                 (owed ws) t2 t3 item h.0.lies.stands.0
-                (move_local program.reading (setting program) t2 (first + w.answer) (Real 10) x refl
+                (move_local program.reading (setting program) t2 (first + w.answer) (Real ANSWER) x refl
                 (own f.active.found w.rest.count w.answer h.0.homed.count m)) (way_second program s s1 t2 body) (
                   record {
                     active = record {

@@ -9,6 +9,8 @@ use Rattle.low_ir.specs.Procedures.{CodeOf as LowCodeOf, Build, Request, Take, E
 use Rattle.low_ir.specs.Procedures.{Call as LowCall, CallAt as LowCallAt, If, Return as LowReturn}
 use Rattle.low_ir.specs.Procedures.{TailCall as LowTailCall, TailCallAt as LowTailCallAt, Proc}
 use Rattle.low_ir.specs.declared.code.WordOp.{WordOp}
+use Rattle.rv_select.specs.declared.convention.TheConstants.{FIRST_SCRATCH, SECOND_SCRATCH, THIRD_SCRATCH}
+use Rattle.rv_select.specs.declared.convention.TheConstants.{FIRST_ARGUMENT, SECOND_ARGUMENT, ANSWER}
 use Rattle.rv_select.specs.declared.code.VReg.{VReg}
 use Rattle.rv_select.specs.declared.code.VReg.TheVariants.{Real, Virtual}
 use Rattle.rv_select.specs.declared.code.VirtualItem.{VirtualItem}
@@ -95,7 +97,8 @@ put_none first rd (Number n) xs = refl
 
 stores_none : (first offset : ℕ) (args : List LowSource) → marks (stores_items first offset args) ≡ []
 stores_none first offset [] = refl
-stores_none first offset (a ∷ args) = after (source_items 5 a) _ (source_none 5 a) ∙ stores_none first (offset + 8) args
+stores_none first offset (a ∷ args) = after (source_items FIRST_SCRATCH a) _ (source_none FIRST_SCRATCH a)
+    ∙ stores_none first (offset + 8) args
 
 -- the numbers from one to below another
 abbrev pub Between : ℕ → ℕ → ℕ → Type 0
@@ -163,7 +166,7 @@ module _ (first out : ℕ) where
   compute_marks : (c : Bool) (op : WordOp) (rd : VReg) (a b : LowSource) (xs : List VirtualItem)
       → marks (second_items c b ++ (compute_item c first op rd a b ∷ xs)) ≡ marks xs
   compute_marks true op rd a b xs = refl
-  compute_marks false op rd a b xs = sources_marks 6 b _
+  compute_marks false op rd a b xs = sources_marks SECOND_SCRATCH b _
 
   code_fresh : (c : Code) (m : ℕ) → Fresh (Between m (m + marks_in c)) (marks (code_items first out m c))
   code_fresh Done m = (tt, tt)
@@ -171,29 +174,31 @@ module _ (first out : ℕ) where
       subst (Fresh (Between m (m + marks_in rest)))
       (sym (put_none first (Virtual (first + d)) a (code_items first out m rest))) (code_fresh rest m)
   code_fresh (LowCompute op d a b rest) m =
-      subst (Fresh (Between m (m + marks_in rest))) (sym (sources_marks 5 a _
+      subst (Fresh (Between m (m + marks_in rest))) (sym (sources_marks FIRST_SCRATCH a _
       ∙ compute_marks (is_small op b) op (Virtual (first + d)) a b (code_items first out m rest))) (code_fresh rest m)
   code_fresh (LowLoad d a offset rest) m =
-      subst (Fresh (Between m (m + marks_in rest))) (sym (sources_marks 5 a _)) (code_fresh rest m)
+      subst (Fresh (Between m (m + marks_in rest))) (sym (sources_marks FIRST_SCRATCH a _)) (code_fresh rest m)
   code_fresh (LowStore b a offset rest) m =
-      subst (Fresh (Between m (m + marks_in rest))) (sym (sources_marks 5 a _ ∙ sources_marks 6 b _))
+      subst (Fresh (Between m (m + marks_in rest))) (sym (sources_marks FIRST_SCRATCH a _
+        ∙ sources_marks SECOND_SCRATCH b _))
       (code_fresh rest m)
   code_fresh (LowCodeOf d k rest) m = code_fresh rest m
   code_fresh (Build d args rest) m =
       subst (Fresh (Between m (m + marks_in rest)))
       (sym (after (stores_items first 0 args) _ (stores_none first 0 args))) (code_fresh rest m)
   code_fresh (Request d a rest) m =
-      subst (Fresh (Between m (m + marks_in rest))) (sym (sources_marks 7 a _)) (code_fresh rest m)
+      subst (Fresh (Between m (m + marks_in rest))) (sym (sources_marks THIRD_SCRATCH a _)) (code_fresh rest m)
   code_fresh (Take a rest) m =
-      subst (Fresh (Between m (m + marks_in rest))) (sym (sources_marks 7 a _)) (code_fresh rest m)
+      subst (Fresh (Between m (m + marks_in rest))) (sym (sources_marks THIRD_SCRATCH a _)) (code_fresh rest m)
   code_fresh (LowEnvironment number a b d e rest) m =
-      subst (Fresh (Between m (m + marks_in rest))) (sym (put_none first (Real 10) a _ ∙ put_none first (Real 11) b _))
+      subst (Fresh (Between m (m + marks_in rest))) (sym (put_none first (Real FIRST_ARGUMENT) a _
+        ∙ put_none first (Real SECOND_ARGUMENT) b _))
       (code_fresh rest m)
   code_fresh (LowCall d k args rest) m =
       subst (Fresh (Between m (m + marks_in rest))) (sym (after (args_items first 0 args) _ (args_none first 0 args)))
       (code_fresh rest m)
   code_fresh (LowCallAt d f args rest) m =
-      subst (Fresh (Between m (m + marks_in rest))) (sym (sources_marks 7 f _
+      subst (Fresh (Between m (m + marks_in rest))) (sym (sources_marks THIRD_SCRATCH f _
       ∙ after (args_items first 0 args) _ (args_none first 0 args))) (code_fresh rest m)
   code_fresh (If cond a b one other rest) m =
       let m1 : ℕ = suc (suc m) in
@@ -204,21 +209,23 @@ module _ (first out : ℕ) where
       let ys : List VirtualItem = code_items first out m2 one in
       let zs : List VirtualItem = code_items first out m3 rest in
       let behind : List VirtualItem = Jump (suc m) ∷ Mark m ∷ (ys ++ (Mark (suc m) ∷ zs)) in
-      let tested : List VirtualItem = Branch cond (source_reg first 5 a) (source_reg first 6 b) m ∷ (xs ++ behind) in
+      let tested : List VirtualItem = Branch cond (source_reg first FIRST_SCRATCH a) (source_reg first SECOND_SCRATCH b)
+        m ∷ (xs ++ behind) in
       let parts : marks (code_items first out m (If cond a b one other rest))
       ≡ marks xs ++ (m ∷ (marks ys ++ (suc m ∷ marks zs))) =
-      sources_marks 5 a (source_items 6 b ++ tested) ∙ (sources_marks 6 b tested ∙ (marks_append xs behind
+      sources_marks FIRST_SCRATCH a (source_items SECOND_SCRATCH b ++ tested)
+        ∙ (sources_marks SECOND_SCRATCH b tested ∙ (marks_append xs behind
       ∙ ap (λ r. marks xs ++ (m ∷ r)) (marks_append ys (Mark (suc m) ∷ zs)))) in
       let whole : end ≡ m + (suc (suc (marks_in other)) + marks_in one + marks_in rest) = omega arith in
       let fresh = branch_fresh (marks xs) (marks ys) (marks zs) m m2 m3 end (omega arith) (omega arith) (omega arith)
       (code_fresh other m1) (code_fresh one m2) (code_fresh rest m3) in
       subst (λ n. Fresh (Between m n) (marks (code_items first out m (If cond a b one other rest)))) whole
       (subst (Fresh (Between m end)) (sym parts) fresh)
-  code_fresh (LowReturn a) m = subst (Fresh (Between m (m + 0))) (sym (put_none first (Real 10) a _)) (tt, tt)
+  code_fresh (LowReturn a) m = subst (Fresh (Between m (m + 0))) (sym (put_none first (Real ANSWER) a _)) (tt, tt)
   code_fresh (LowTailCall k args) m =
       subst (Fresh (Between m (m + 0))) (sym (after (args_items first 0 args) _ (args_none first 0 args))) (tt, tt)
   code_fresh (LowTailCallAt f args) m =
-      subst (Fresh (Between m (m + 0))) (sym (sources_marks 7 f _
+      subst (Fresh (Between m (m + 0))) (sym (sources_marks THIRD_SCRATCH f _
       ∙ after (args_items first 0 args) _ (args_none first 0 args))) (tt, tt)
 
 -- a procedure's marks

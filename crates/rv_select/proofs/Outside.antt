@@ -11,6 +11,7 @@ use Rattle.low_ir.specs.declared.code.LowSource.TheVariants.{Number}
 use Rattle.low_ir.specs.Procedures.{Code, Environment as LowEnvironment}
 use Rattle.low_ir.specs.Run.{LowState, word_of, with_local, code_step}
 use Rattle.low_ir.specs.Prices.{source_price}
+use Rattle.rv_select.specs.declared.convention.TheConstants.{FIRST_ARGUMENT, SECOND_ARGUMENT, CALL_NUMBER}
 use Rattle.rv_select.specs.declared.code.VReg.TheVariants.{Real, Virtual}
 use Rattle.rv_select.specs.declared.code.VirtualItem.{VirtualItem}
 use Rattle.rv_select.specs.declared.code.VirtualItem.TheVariants.{Constant, Move, Environment}
@@ -28,9 +29,9 @@ use Rattle.rv_select.proofs.Stepping.{stops_here, cost_here}
 module _ {V : Type 0} (program : Program V) where
   abbrev effect_from : Effect → VirtualState → WorldState → Next VirtualState V
   effect_from e t w = settle program.reading e t (λ a b. record t {
-    regs = set_reg 11 b (set_reg 10 a t.regs);
+    regs = set_reg SECOND_ARGUMENT b (set_reg FIRST_ARGUMENT a t.regs);
     known =
-        also_known 11 (also_known 10 t.known);
+        also_known SECOND_ARGUMENT (also_known FIRST_ARGUMENT t.known);
     world = w;
     pc = suc t.pc;
   })
@@ -55,13 +56,13 @@ module _ {V : Type 0} (program : Program V) where
 
       -- the items that hand on both words and the call's number
       first_word : VirtualItem
-      first_word = put_item f.first (Real 10) a
+      first_word = put_item f.first (Real FIRST_ARGUMENT) a
 
       second_word : VirtualItem
-      second_word = put_item f.first (Real 11) b
+      second_word = put_item f.first (Real SECOND_ARGUMENT) b
 
       call_number : VirtualItem
-      call_number = Constant (Real 17) number
+      call_number = Constant (Real CALL_NUMBER) number
 
       with_words : ℕ → ℕ
       with_words left =
@@ -71,25 +72,25 @@ module _ {V : Type 0} (program : Program V) where
       words_paid : (left : ℕ) → with_words left
           ≤ source_price a + source_price b + source_price (Number number) + 2 + left
       words_paid left =
-          let x = put_paid (setting program) f (Real 10) a in
-          let y = put_paid (setting program) f (Real 11) b in
+          let x = put_paid (setting program) f (Real FIRST_ARGUMENT) a in
+          let y = put_paid (setting program) f (Real SECOND_ARGUMENT) b in
           let z = number_paid number in omega (arith, x, y, z)
 
       -- and those that set two words
       puts_first : VirtualItem
-      puts_first = Move (Virtual (f.first + d)) (Real 10)
+      puts_first = Move (Virtual (f.first + d)) (Real FIRST_ARGUMENT)
 
       puts_second : VirtualItem
-      puts_second = Move (Virtual (f.first + e)) (Real 11)
+      puts_second = Move (Virtual (f.first + e)) (Real SECOND_ARGUMENT)
 
       t1 : ℕ → VirtualState
-      t1 x = wrote_real 10 x t
+      t1 x = wrote_real FIRST_ARGUMENT x t
 
       t2 : ℕ → ℕ → VirtualState
-      t2 x y = wrote_real 11 y (t1 x)
+      t2 x y = wrote_real SECOND_ARGUMENT y (t1 x)
 
       t3 : ℕ → ℕ → VirtualState
-      t3 x y = wrote_real 17 (number % 2 ^ 64) (t2 x y)
+      t3 x y = wrote_real CALL_NUMBER (number % 2 ^ 64) (t2 x y)
 
       call_of : ℕ → ℕ → WorldState → Called
       call_of x y w = environment_call (number % 2 ^ 64) x y (length program.low.labels) w
@@ -107,12 +108,13 @@ module _ {V : Type 0} (program : Program V) where
           does_item program.reading (setting program) (Way program s s1) Q (suc (suc k))
           (item_price (setting program) f second_word
           + (item_price (setting program) f call_number + left)) t (t1 x) first_word lies.stands.0
-          (put_real program.reading (setting program) t s.active.locals 10 a x xe on.active.locals refl)
+          (put_real program.reading (setting program) t s.active.locals FIRST_ARGUMENT a x xe on.active.locals refl)
           (way_first program s s1 t on.body) (
           does_item program.reading (setting program) (Way program s s1) Q (suc k)
           (item_price (setting program) f call_number + left) (t1 x) (t2 x y)
           second_word lies.stands.1.0
-          (put_real program.reading (setting program) (t1 x) s.active.locals 11 b y ye on.active.locals refl)
+          (put_real program.reading (setting program) (t1 x) s.active.locals SECOND_ARGUMENT b y ye on.active.locals
+            refl)
           (way_first program s s1 (t1 x) on.body) (
           does_item program.reading (setting program) (Way program s s1) Q k left
           (t2 x y) (t3 x y) call_number lies.stands.1.1.0 refl
@@ -132,9 +134,9 @@ module _ {V : Type 0} (program : Program V) where
             world = w;
           } in
           let t4 : VirtualState = record (t3 x y) {
-            regs = set_reg 11 a1 (set_reg 10 a0 (t3 x y).regs);
+            regs = set_reg SECOND_ARGUMENT a1 (set_reg FIRST_ARGUMENT a0 (t3 x y).regs);
             known =
-                also_known 11 (also_known 10 (t3 x y).known);
+                also_known SECOND_ARGUMENT (also_known FIRST_ARGUMENT (t3 x y).known);
             world = w;
             pc = suc (t3 x y).pc;
           } in
@@ -166,13 +168,13 @@ module _ {V : Type 0} (program : Program V) where
                 does_item program.reading
                 (setting program) (Way program s s1) (At program s1) 1 last t4 t5 puts_first lies.stands.1.1.1.1.0
                 (move_local program.reading (setting program) t4 (t.active.found.first + d)
-                (Real 10) a0 refl (mine program s t on d dm))
+                (Real FIRST_ARGUMENT) a0 refl (mine program s t on d dm))
                 (way_second program s s1 t4 body) (
                 does_item program.reading (setting program) (Way program s s1) (At program s1) 0
                 (owed s.waiting) t5 t6 puts_second
                 lies.stands.1.1.1.1.1.0
                 (move_local program.reading (setting program) t5 (t.active.found.first + e)
-                (Real 11) a1 refl (mine program s t on e em))
+                (Real SECOND_ARGUMENT) a1 refl (mine program s t on e em))
                 (way_second program s s1 t5 body) (
                   record {
                     active = record {

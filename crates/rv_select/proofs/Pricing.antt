@@ -5,6 +5,7 @@ use Rattle.std.specs.Prelude.{length}
 use Rattle.low_ir.specs.declared.code.LowSource.{LowSource}
 use Rattle.low_ir.specs.declared.code.LowSource.TheVariants.{Word, Number}
 use Rattle.low_ir.specs.Prices.{slot_price, source_price, sources_price, entering, leaving}
+use Rattle.rv_select.specs.declared.convention.TheConstants.{FIRST_SCRATCH, FIRST_ARGUMENT, ALLOCATION}
 use Rattle.rv_select.specs.declared.code.VReg.{VReg}
 use Rattle.rv_select.specs.declared.code.VReg.TheVariants.{Real, Virtual}
 use Rattle.rv_select.specs.declared.code.VirtualItem.{VirtualItem}
@@ -61,7 +62,7 @@ module _ (setting : Setting) (f : Found) where
   args_paid [] from left = omega arith
   args_paid (a ∷ args) from left =
       let i = args_paid args (suc from) left in
-      let p = put_paid (Real (10 + from)) a in omega (arith, i, p)
+      let p = put_paid (Real (FIRST_ARGUMENT + from)) a in omega (arith, i, p)
 
   -- for which the procedure takes them
   pub params_paid : (n from left : ℕ) → from + n ≤ 8
@@ -78,7 +79,7 @@ module _ (setting : Setting) (f : Found) where
   stores_paid [] offset left = omega arith
   stores_paid (a ∷ args) offset left =
       let later : List VirtualItem = stores_items f.first (offset + 8) args in
-      let item : VirtualItem = Store (source_reg f.first 5 a) (Real 26) offset in
-      let e = prices_append (source_items 5 a) (item ∷ later) left in
-      let p = source_paid 5 a (item_price setting f item + prices setting f later left) in
+      let item : VirtualItem = Store (source_reg f.first FIRST_SCRATCH a) (Real ALLOCATION) offset in
+      let e = prices_append (source_items FIRST_SCRATCH a) (item ∷ later) left in
+      let p = source_paid FIRST_SCRATCH a (item_price setting f item + prices setting f later left) in
       let i = stores_paid args (offset + 8) left in omega (arith, e, p, i)

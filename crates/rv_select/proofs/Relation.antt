@@ -12,6 +12,7 @@ use Rattle.low_ir.specs.Procedures.{Code, Proc}
 use Rattle.low_ir.specs.Run.{Setting as LowSetting, Active as LowActive, Waiting, LowState, LowShown, proc_from}
 use Rattle.low_ir.specs.Run.{low_machine, held_by as words_held}
 use Rattle.low_ir.specs.Prices.{slot_price}
+use Rattle.rv_select.specs.declared.convention.TheConstants.{ANSWER, STACK_END, ALLOCATION, REGION_END}
 use Rattle.rv_select.specs.declared.code.VReg.TheVariants.{Real, Virtual}
 use Rattle.rv_select.specs.declared.code.VirtualItem.{VirtualItem}
 use Rattle.rv_select.specs.declared.code.VirtualItem.TheVariants.{Move, Mark, Jump}
@@ -135,7 +136,8 @@ module _ {V : Type 0} (program : Program V) where
   Behind [] (f ∷ g ∷ fs) = ⊥
   Behind (w ∷ ws) [] = ⊥
   Behind (w ∷ ws) (f ∷ fs) =
-      ActiveOn (Move (Virtual (f.active.found.first + w.answer)) (Real 10) ∷ []) w.rest f.back f.active × Behind ws fs
+      ActiveOn (Move (Virtual (f.active.found.first + w.answer)) (Real ANSWER) ∷ []) w.rest f.back f.active
+        × Behind ws fs
 
   -- as many procedures are active in both, and have as many words
   abbrev pub AsMany : LowState → VirtualState → Type 0
@@ -155,16 +157,17 @@ module _ {V : Type 0} (program : Program V) where
   -- what is seen of both
   abbrev pub SeenAs : LowState → VirtualState → Type 0
   SeenAs s t =
-      ((at : ℕ) → at < s.alloc → t.memory at ≡ s.memory at) × (t.regs 26 ≡ s.alloc)
-      × NoMore s t × (t.world ≡ s.world) × (s.alloc ≤ program.low.top) × (t.regs 25 ≡ program.stack)
-      × (t.regs 27 ≡ program.low.top)
+      ((at : ℕ) → at < s.alloc → t.memory at ≡ s.memory at) × (t.regs ALLOCATION ≡ s.alloc)
+      × NoMore s t × (t.world ≡ s.world) × (s.alloc ≤ program.low.top) × (t.regs STACK_END ≡ program.stack)
+      × (t.regs REGION_END ≡ program.low.top)
 
   -- what is the same in both, and how the allocation word is
   abbrev pub Body : LowState → VirtualState → Type 0
   Body s t =
-      (t.memory ≡ s.memory) × (t.regs 26 ≡ s.alloc) × AsMany s t × (t.world ≡ s.world)
-      × (t.regs 27 ≡ program.low.top) × (s.alloc ≤ program.low.top) × (s.alloc % 8 ≡ 0) × (program.low.region ≤ s.alloc)
-      × (t.regs 25 ≡ program.stack)
+      (t.memory ≡ s.memory) × (t.regs ALLOCATION ≡ s.alloc) × AsMany s t × (t.world ≡ s.world)
+      × (t.regs REGION_END ≡ program.low.top) × (s.alloc ≤ program.low.top) × (s.alloc % 8 ≡ 0)
+        × (program.low.region ≤ s.alloc)
+      × (t.regs STACK_END ≡ program.stack)
 
   -- what is the same is seen so
   pub seen : (s : LowState) (t : VirtualState) → Body s t → SeenAs s t

@@ -12,6 +12,8 @@ use Rattle.low_ir.specs.Procedures.{CodeOf as LowCodeOf, Build, Request, Take, E
 use Rattle.low_ir.specs.Procedures.{Call as LowCall, CallAt as LowCallAt, If, Return as LowReturn}
 use Rattle.low_ir.specs.Procedures.{TailCall as LowTailCall, TailCallAt as LowTailCallAt, Proc}
 use Rattle.low_ir.specs.Closed.{is_closed}
+use Rattle.rv_select.specs.declared.convention.TheConstants.{FIRST_SCRATCH, SECOND_SCRATCH, THIRD_SCRATCH}
+use Rattle.rv_select.specs.declared.convention.TheConstants.{FIRST_ARGUMENT, SECOND_ARGUMENT, ANSWER}
 use Rattle.rv_select.specs.declared.code.VReg.{VReg}
 use Rattle.rv_select.specs.declared.code.VReg.TheVariants.{Real, Virtual}
 use Rattle.rv_select.specs.declared.code.VirtualItem.{VirtualItem}
@@ -49,22 +51,24 @@ module _ (first out : ℕ) where
   code_has Done m w h k = absurd (omega (arith, h, k))
   code_has (Set d a rest) m w h k = later (put_item first (Virtual (first + d)) a ∷ []) _ w (code_has rest m w h k)
   code_has (LowCompute op d a b rest) m w h k =
-      later (source_items 5 a) _ w (later (second_items (is_small op b) b) _ w
+      later (source_items FIRST_SCRATCH a) _ w (later (second_items (is_small op b) b) _ w
       (later (compute_item (is_small op b) first op (Virtual (first + d)) a b ∷ []) _ w (code_has rest m w h k)))
-  code_has (LowLoad d a offset rest) m w h k = later (source_items 5 a) _ w (code_has rest m w h k)
+  code_has (LowLoad d a offset rest) m w h k = later (source_items FIRST_SCRATCH a) _ w (code_has rest m w h k)
   code_has (LowStore b a offset rest) m w h k =
-      later (source_items 5 a) _ w (later (source_items 6 b) _ w (code_has rest m w h k))
+      later (source_items FIRST_SCRATCH a) _ w (later (source_items SECOND_SCRATCH b) _ w (code_has rest m w h k))
   code_has (LowCodeOf d i rest) m w h k = code_has rest m w h k
   code_has (Build d args rest) m w h k = later (stores_items first 0 args) _ w (code_has rest m w h k)
-  code_has (Request d a rest) m w h k = later (source_items 7 a) _ w (code_has rest m w h k)
-  code_has (Take a rest) m w h k = later (source_items 7 a) _ w (code_has rest m w h k)
+  code_has (Request d a rest) m w h k = later (source_items THIRD_SCRATCH a) _ w (code_has rest m w h k)
+  code_has (Take a rest) m w h k = later (source_items THIRD_SCRATCH a) _ w (code_has rest m w h k)
   code_has (LowEnvironment number a b d e rest) m w h k =
-      later (put_item first (Real 10) a ∷ put_item first (Real 11) b ∷ []) _ w (code_has rest m w h k)
+      later (put_item first (Real FIRST_ARGUMENT) a ∷ put_item first (Real SECOND_ARGUMENT) b ∷ []) _ w
+        (code_has rest m w h k)
   code_has (LowCall d i args rest) m w h k = later (args_items first 0 args) _ w (code_has rest m w h k)
   code_has (LowCallAt d f args rest) m w h k =
-      later (source_items 7 f) _ w (later (args_items first 0 args) _ w (code_has rest m w h k))
+      later (source_items THIRD_SCRATCH f) _ w (later (args_items first 0 args) _ w (code_has rest m w h k))
   code_has (If cond a b one other rest) m w h k =
-      later (source_items 5 a) _ w (later (source_items 6 b) _ w (in_branch h k (code_has other (suc (suc m)) w)
+      later (source_items FIRST_SCRATCH a) _ w
+        (later (source_items SECOND_SCRATCH b) _ w (in_branch h k (code_has other (suc (suc m)) w)
       (code_has one (suc (suc m) + marks_in other) w) (code_has rest (suc (suc m) + marks_in other + marks_in one) w)
       (cases_lt w (suc (suc m)))))
     where
@@ -182,13 +186,13 @@ module _ (S : List ℕ) where
   put_well first rd (Word i) h = (tt, (h, (tt, tt)))
   put_well first rd (Number n) h = (tt, (h, tt))
 
-  arg_readable : (from n : ℕ) → from + suc n ≤ 8 → may_read (10 + from) ≡ true
+  arg_readable : (from n : ℕ) → from + suc n ≤ 8 → may_read (FIRST_ARGUMENT + from) ≡ true
   arg_readable from n h = grind arith
 
   args_well : (first from : ℕ) (args : List LowSource) → from + length args ≤ 8 → AreWell (args_items first from args)
   args_well first from [] h = tt
   args_well first from (a ∷ args) h = (
-    put_well first (Real (10 + from)) a (arg_readable from (length args) (omega (arith, h))),
+    put_well first (Real (FIRST_ARGUMENT + from)) a (arg_readable from (length args) (omega (arith, h))),
     args_well first (suc from) args (omega (arith, h)),
   )
 
@@ -204,18 +208,18 @@ module _ (S : List ℕ) where
   stores_well : (first offset : ℕ) (args : List LowSource) → AreWell (stores_items first offset args)
   stores_well first offset [] = tt
   stores_well first offset (a ∷ args) =
-      well_append (source_items 5 a) _ (source_well 5 a refl)
-      ((tt, (refl, (readable_source first 5 a refl, tt))), stores_well first (offset + 8) args)
+      well_append (source_items FIRST_SCRATCH a) _ (source_well FIRST_SCRATCH a refl)
+      ((tt, (refl, (readable_source first FIRST_SCRATCH a refl, tt))), stores_well first (offset + 8) args)
 
   compute_well : (op : WordOp) (first d : ℕ) (a b : LowSource) (c : Bool)
       → IsWell S (compute_item c first op (Virtual (first + d)) a b)
-  compute_well op first d a b true = (tt, (tt, (readable_source first 5 a refl, tt)))
+  compute_well op first d a b true = (tt, (tt, (readable_source first FIRST_SCRATCH a refl, tt)))
   compute_well op first d a b false =
-      (tt, (tt, (readable_source first 5 a refl, (readable_source first 6 b refl, tt))))
+      (tt, (tt, (readable_source first FIRST_SCRATCH a refl, (readable_source first SECOND_SCRATCH b refl, tt))))
 
   second_well : (c : Bool) (b : LowSource) → AreWell (second_items c b)
   second_well true b = tt
-  second_well false b = source_well 6 b refl
+  second_well false b = source_well SECOND_SCRATCH b refl
 
   module _ (n first out : ℕ) (there : (k : ℕ) → k < n → Contains S k) (out_there : Contains S out) where
     with_source : (r : ℕ) (a : LowSource) (xs : List VirtualItem) → may_read r ≡ true → AreWell xs
@@ -228,7 +232,7 @@ module _ (S : List ℕ) where
         well_append (args_items first 0 args) xs (args_well first 0 args (omega (arith, l))) h
 
     -- the answer of a call is moved to its register
-    answer_well : (d : ℕ) → IsWell S (Move (Virtual (first + d)) (Real 10))
+    answer_well : (d : ℕ) → IsWell S (Move (Virtual (first + d)) (Real ANSWER))
     answer_well d = (tt, (tt, (refl, tt)))
 
     handed : (args : List LowSource) → length args ≤ 8 → Every IsReadable (handed_on 0 (length args))
@@ -239,13 +243,16 @@ module _ (S : List ℕ) where
     code_well Done m h t s = tt
     code_well (Set d a rest) m h t s = (put_well first (Virtual (first + d)) a tt, code_well rest m h t s)
     code_well (LowCompute op d a b rest) m h t s =
-        with_source 5 a _ refl (well_append (second_items (is_small op b) b) _ (second_well (is_small op b) b)
+        with_source FIRST_SCRATCH a _ refl
+          (well_append (second_items (is_small op b) b) _ (second_well (is_small op b) b)
         (compute_well op first d a b (is_small op b), code_well rest m h t s))
     code_well (LowLoad d a offset rest) m h t s =
-        with_source 5 a _ refl ((tt, (tt, (readable_source first 5 a refl, tt))), code_well rest m h.1 t s)
+        with_source FIRST_SCRATCH a _ refl
+          ((tt, (tt, (readable_source first FIRST_SCRATCH a refl, tt))), code_well rest m h.1 t s)
     code_well (LowStore b a offset rest) m h t s =
-        with_source 5 a _ refl (with_source 6 b _ refl
-        ((tt, (readable_source first 5 a refl, (readable_source first 6 b refl, tt))), code_well rest m h.1 t s))
+        with_source FIRST_SCRATCH a _ refl (with_source SECOND_SCRATCH b _ refl
+        ((tt, (readable_source first FIRST_SCRATCH a refl, (readable_source first SECOND_SCRATCH b refl, tt))),
+          code_well rest m h.1 t s))
     code_well (LowCodeOf d k rest) m h t s = (((there k t.0, tt), (tt, tt)), code_well rest m h t.1 s)
     code_well (Build d args rest) m h t s = (
       (tt, (refl, (refl, (refl, tt)))),
@@ -259,25 +266,25 @@ module _ (S : List ℕ) where
       ),
     )
     code_well (Request d a rest) m h t s =
-        with_source 7 a _ refl (
+        with_source THIRD_SCRATCH a _ refl (
           (tt, (refl, (refl, (refl, tt)))),
           (
             (tt, (refl, (refl, tt))),
             (
-              ((out_there, tt), (refl, (readable_source first 7 a refl, tt))),
+              ((out_there, tt), (refl, (readable_source first THIRD_SCRATCH a refl, tt))),
               ((tt, (tt, (refl, tt))), code_well rest m h t s),
             ),
           ),
         )
     code_well (Take a rest) m h t s =
-        with_source 7 a _ refl (
-          (tt, (refl, (readable_source first 7 a refl, tt))),
+        with_source THIRD_SCRATCH a _ refl (
+          (tt, (refl, (readable_source first THIRD_SCRATCH a refl, tt))),
           ((tt, (refl, (refl, (refl, tt)))), code_well rest m h t s),
         )
     code_well (LowEnvironment number a b d e rest) m h t s = (
-      put_well first (Real 10) a refl,
+      put_well first (Real FIRST_ARGUMENT) a refl,
       (
-        put_well first (Real 11) b refl,
+        put_well first (Real SECOND_ARGUMENT) b refl,
         (
           (tt, (refl, tt)),
           (
@@ -296,15 +303,16 @@ module _ (S : List ℕ) where
     code_well (LowCall d k args rest) m h t s =
         with_args args _ h.0 (((there k t.0, tt), (refl, handed args h.0)), (answer_well d, code_well rest m h.1 t.1 s))
     code_well (LowCallAt d f args rest) m h t s =
-        with_source 7 f _ refl (with_args args _ h.0
-        ((tt, (refl, (readable_source first 7 f refl, handed args h.0))), (answer_well d, code_well rest m h.1 t s)))
+        with_source THIRD_SCRATCH f _ refl (with_args args _ h.0
+        ((tt, (refl, (readable_source first THIRD_SCRATCH f refl, handed args h.0))),
+          (answer_well d, code_well rest m h.1 t s)))
     code_well (If cond a b one other rest) m h t s =
-        with_source 5 a _ refl (with_source 6 b _ refl (
+        with_source FIRST_SCRATCH a _ refl (with_source SECOND_SCRATCH b _ refl (
           (
             (s m (omega arith) (omega arith), tt),
             (
-              readable_source first 5 a refl,
-              (readable_source first 6 b refl, tt),
+              readable_source first FIRST_SCRATCH a refl,
+              (readable_source first SECOND_SCRATCH b refl, tt),
             ),
           ),
           well_append (code_items first out (suc (suc m)) other) _
@@ -322,10 +330,11 @@ module _ (S : List ℕ) where
                 ),
               ),
         ))
-    code_well (LowReturn a) m h t s = (put_well first (Real 10) a refl, ((tt, (refl, tt)), tt))
+    code_well (LowReturn a) m h t s = (put_well first (Real ANSWER) a refl, ((tt, (refl, tt)), tt))
     code_well (LowTailCall k args) m h t s = with_args args _ h (((there k t, tt), handed args h), tt)
     code_well (LowTailCallAt f args) m h t s =
-        with_source 7 f _ refl (with_args args _ h ((tt, (readable_source first 7 f refl, handed args h)), tt))
+        with_source THIRD_SCRATCH f _ refl
+          (with_args args _ h ((tt, (readable_source first THIRD_SCRATCH f refl, handed args h)), tt))
 
   procs_well : (n : ℕ) → ((k : ℕ) → k < n → Contains S k) → (ps : List Proc) (k first mark : ℕ) → AreSmall ps
       → AllThere n ps → ((w : ℕ) → Has (procs_items k first mark ps) w → Contains S w)

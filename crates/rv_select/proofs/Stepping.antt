@@ -11,6 +11,7 @@ use Rattle.low_ir.specs.Steps.{set_local, given, only_if, effect_of, settle}
 use Rattle.low_ir.specs.Procedures.{Code}
 use Rattle.low_ir.specs.Run.{LowState, with_local, goes_on}
 use Rattle.low_ir.specs.Prices.{step_price}
+use Rattle.rv_select.specs.declared.convention.TheConstants.{FIRST_ARGUMENT, SECOND_ARGUMENT, REGION_OUT_CALL}
 use Rattle.rv_select.specs.declared.code.VirtualItem.{VirtualItem}
 use Rattle.rv_select.specs.Run.{Found, VirtualState, also_known, is_own, item_step, step_here}
 use Rattle.rv_select.specs.Select.{code_items}
@@ -76,13 +77,13 @@ module _ {V : Type 0} (program : Program V) where
   called_by n x y u =
       let c : Called = environment_call n x y (length program.low.labels) u.world in
       settle program.reading (effect_of program.low.labels c.effect) u (λ a b. record u {
-        regs = set_reg 11 b (set_reg 10 a u.regs);
-        known = also_known 11 (also_known 10 u.known);
+        regs = set_reg SECOND_ARGUMENT b (set_reg FIRST_ARGUMENT a u.regs);
+        known = also_known SECOND_ARGUMENT (also_known FIRST_ARGUMENT u.known);
         world = c.world;
         pc = suc u.pc;
       })
 
-  pub region_call : (u : VirtualState) → called_by 5 0 0 u ≡ Stop (program.reading (Lacks Region)) u
+  pub region_call : (u : VirtualState) → called_by REGION_OUT_CALL 0 0 u ≡ Stop (program.reading (Lacks Region)) u
   unfolding environment_call
   region_call u = refl
 

@@ -14,6 +14,7 @@ use Rattle.low_ir.specs.declared.code.LowSource.TheVariants.{Word, Number}
 use Rattle.low_ir.specs.Procedures.{Code, Set, Compute as LowCompute, Load as LowLoad, Store as LowStore}
 use Rattle.low_ir.specs.Run.{LowState, word_of, with_local, code_step}
 use Rattle.low_ir.specs.Prices.{source_price}
+use Rattle.rv_select.specs.declared.convention.TheConstants.{FIRST_SCRATCH, SECOND_SCRATCH}
 use Rattle.rv_select.specs.declared.code.VReg.TheVariants.{Virtual}
 use Rattle.rv_select.specs.declared.code.VirtualItem.{VirtualItem}
 use Rattle.rv_select.specs.declared.code.VirtualItem.TheVariants.{Compute, ComputeWith, Load, Store}
@@ -68,13 +69,16 @@ module _ {V : Type 0} (program : Program V) where
   -- what puts both into registers, and the item that reads them there
   pub both_paid : (s : LowState) (t : VirtualState) (a b : LowSource) (left : ℕ)
       → (let f : Found = t.active.found in
-      prices (setting program) f (source_items 5 a) (prices (setting program) f (source_items 6 b) left)
-      + (register_price f.first (source_reg f.first 5 a) + register_price f.first (source_reg f.first 6 b))
+      prices (setting program) f (source_items FIRST_SCRATCH a)
+        (prices (setting program) f (source_items SECOND_SCRATCH b) left)
+      + (register_price f.first (source_reg f.first FIRST_SCRATCH a) + register_price f.first
+        (source_reg f.first SECOND_SCRATCH b))
       ≤ source_price a + source_price b + left)
   both_paid s t a b left =
       let f : Found = t.active.found in
-      let p = source_paid (setting program) f 5 a (prices (setting program) f (source_items 6 b) left) in
-      let q = source_paid (setting program) f 6 b left in omega (arith, p, q)
+      let p = source_paid (setting program) f FIRST_SCRATCH a
+        (prices (setting program) f (source_items SECOND_SCRATCH b) left) in
+      let q = source_paid (setting program) f SECOND_SCRATCH b left in omega (arith, p, q)
 
   pub do_compute : (s : LowState) (t : VirtualState) (on : On program s t) (op : WordOp)
       (d : ℕ) (a b : LowSource) (rest : Code)
@@ -97,7 +101,7 @@ module _ {V : Type 0} (program : Program V) where
       first = f.first
 
       p1 : ℕ
-      p1 = beyond (source_items 5 a) t.pc
+      p1 = beyond (source_items FIRST_SCRATCH a) t.pc
 
       after : ℕ → ℕ → LowState
       after x y = record s { active = with_local d (compute op x y) (record s.active { code = rest }) }
@@ -113,26 +117,29 @@ module _ {V : Type 0} (program : Program V) where
 
       by_kind : (x y : ℕ) → word_of s.active.locals a ≡ Some x → word_of s.active.locals b ≡ Some y
           → nat_lt d s.active.count ≡ true → (c : Bool) → is_small op b ≡ c
-          → ItemsOn program s t on t.pc (source_items 5 a ++ (second_items c b
+          → ItemsOn program s t on t.pc (source_items FIRST_SCRATCH a ++ (second_items c b
           ++ (compute_item c first op (Virtual (first + d)) a b ∷ items_of program s t on rest)))
           → Sim program purse s t (Go (after x y))
       by_kind x y ae be h true small_b there =
           let s1 : LowState = after x y in
-          let item : VirtualItem = ComputeWith op (Virtual (first + d)) (source_reg first 5 a) (number_of b) in
+          let item : VirtualItem = ComputeWith op (Virtual (first + d)) (source_reg first FIRST_SCRATCH a)
+            (number_of b) in
           let k = small_is b y small_b be in (
             fetches a 1,
             inl (let z = fetches_ge a 1 in omega (arith, z)),
-            prices (setting program) f (source_items 5 a) (item_price (setting program) f item + owed s.waiting),
-            (let p = source_paid (setting program) f 5 a (item_price (setting program) f item + owed s.waiting) in
+            prices (setting program) f (source_items FIRST_SCRATCH a)
+              (item_price (setting program) f item + owed s.waiting),
+            (let p = source_paid (setting program) f FIRST_SCRATCH a
+              (item_price (setting program) f item + owed s.waiting) in
                 let q = own_slot first d in omega (arith, p, q)),
-            fetch program.reading (setting program) (Way program s s1) (At program s1) s.active.locals 5
+            fetch program.reading (setting program) (Way program s s1) (At program s1) s.active.locals FIRST_SCRATCH
                 (refl, refl, refl, refl) a x t (item
                 ∷ items_of program s t on rest) 1
                 (item_price (setting program) f item + owed s.waiting) ae on.active.locals there.stands
                 (way_first program s s1 t on.body)
                 (λ regs known kept va.
                 item_sets program s t on rest d (compute op x y) regs known p1 item (kept_fixed kept refl refl refl)
-                (past program t.active.found on.active.out t.pc (source_items 5 a) (item
+                (past program t.active.found on.active.out t.pc (source_items FIRST_SCRATCH a) (item
                 ∷ items_of program s t on rest) s.active.rests there) (
                 given_is _ _ x _ va ∙ (only_is _ _ _ k.0
                 ∙ (ap (λ n. puts program.reading (setting program) (Virtual (first + d)) (compute op x n)
@@ -143,11 +150,13 @@ module _ {V : Type 0} (program : Program V) where
           )
       by_kind x y ae be h false small_b there =
           let s1 : LowState = after x y in
-          let item : VirtualItem = Compute op (Virtual (first + d)) (source_reg first 5 a) (source_reg first 6 b) in
-          let pc : ℕ = beyond (source_items 6 b) p1 in (
+          let item : VirtualItem = Compute op (Virtual (first + d)) (source_reg first FIRST_SCRATCH a)
+            (source_reg first SECOND_SCRATCH b) in
+          let pc : ℕ = beyond (source_items SECOND_SCRATCH b) p1 in (
             fetches a (fetches b 1),
             inl (some_steps a b),
-            prices (setting program) f (source_items 5 a) (prices (setting program) f (source_items 6 b)
+            prices (setting program) f (source_items FIRST_SCRATCH a)
+              (prices (setting program) f (source_items SECOND_SCRATCH b)
                 (item_price (setting program) f item + owed s.waiting)),
             (let p = both_paid s t a b (item_price (setting program) f item + owed s.waiting) in
                 let q = own_slot first d in omega (arith, p, q)),
@@ -158,10 +167,11 @@ module _ {V : Type 0} (program : Program V) where
                 there.stands (way_regs program s s1 t on.body)
                 (λ regs known same va vb.
                 item_sets program s t on rest d (compute op x y) regs known pc item same
-                (past program t.active.found on.active.out p1 (source_items 6 b) (item
+                (past program t.active.found on.active.out p1 (source_items SECOND_SCRATCH b) (item
                 ∷ items_of program s t on rest) s.active.rests (past program t.active.found on.active.out t.pc
-                (source_items 5 a)
-                (source_items 6 b ++ (item ∷ items_of program s t on rest)) s.active.rests there)) (given_is _ _ x _ va
+                (source_items FIRST_SCRATCH a)
+                (source_items SECOND_SCRATCH b ++ (item ∷ items_of program s t on rest)) s.active.rests there))
+                  (given_is _ _ x _ va
                 ∙ (given_is _ _ y _ vb ∙ write_local program.reading (setting program)
                 (record t { regs = regs; known = known; pc = pc })
                 (first + d) (compute op x y) (mine program s t on d h)))),
@@ -176,8 +186,8 @@ module _ {V : Type 0} (program : Program V) where
       let purse : ℕ = purse_of program s (LowLoad d a offset rest) in
       let f : Found = t.active.found in
       let first : ℕ = f.first in
-      let item : VirtualItem = Load (Virtual (first + d)) (source_reg first 5 a) offset in
-      let pc : ℕ = beyond (source_items 5 a) t.pc in
+      let item : VirtualItem = Load (Virtual (first + d)) (source_reg first FIRST_SCRATCH a) offset in
+      let pc : ℕ = beyond (source_items FIRST_SCRATCH a) t.pc in
       let left : ℕ = item_price (setting program) f item + owed s.waiting in
       sim_given program purse s s t (word_of s.active.locals a) _ (λ x ae.
       let at : ℕ = plus x (pos offset) in
@@ -187,14 +197,15 @@ module _ {V : Type 0} (program : Program V) where
       let s1 : LowState = record s { active = with_local d word (record s.active { code = rest }) } in (
         fetches a 1,
         inl (let z = fetches_ge a 1 in omega (arith, z)),
-        prices (setting program) f (source_items 5 a) left,
-        (let p = source_paid (setting program) f 5 a left in let q = own_slot first d in omega (arith, p, q)),
-        fetch program.reading (setting program) (Way program s s1) (At program s1) s.active.locals 5
+        prices (setting program) f (source_items FIRST_SCRATCH a) left,
+        (let p = source_paid (setting program) f FIRST_SCRATCH a left in let q = own_slot first d in omega
+          (arith, p, q)),
+        fetch program.reading (setting program) (Way program s s1) (At program s1) s.active.locals FIRST_SCRATCH
             (refl, refl, refl, refl) a x t (item
             ∷ items_of program s t on rest) 1 left ae on.active.locals lies.stands (way_first program s s1 t on.body)
             (λ regs known kept va.
             item_sets program s t on rest d word regs known pc item (kept_fixed kept refl refl refl)
-            (past program t.active.found on.active.out t.pc (source_items 5 a) (item
+            (past program t.active.found on.active.out t.pc (source_items FIRST_SCRATCH a) (item
             ∷ items_of program s t on rest) s.active.rests lies) (
             given_is _ _ x _ va ∙ (only_is _ _ _ m
             ∙ (ap (λ (m0 : Memory). puts program.reading (setting program) (Virtual (first + d)) (load_bytes 8 m0 at)
@@ -212,9 +223,9 @@ module _ {V : Type 0} (program : Program V) where
       let purse : ℕ = purse_of program s (LowStore b a offset rest) in
       let f : Found = t.active.found in
       let first : ℕ = f.first in
-      let item : VirtualItem = Store (source_reg first 6 b) (source_reg first 5 a) offset in
-      let p1 : ℕ = beyond (source_items 5 a) t.pc in
-      let pc : ℕ = beyond (source_items 6 b) p1 in
+      let item : VirtualItem = Store (source_reg first SECOND_SCRATCH b) (source_reg first FIRST_SCRATCH a) offset in
+      let p1 : ℕ = beyond (source_items FIRST_SCRATCH a) t.pc in
+      let pc : ℕ = beyond (source_items SECOND_SCRATCH b) p1 in
       let left : ℕ = item_price (setting program) f item + owed s.waiting in
       sim_given program purse s s t (word_of s.active.locals a) _ (λ x ae.
       sim_given program purse s s t (word_of s.active.locals b) _ (λ y be.
@@ -227,17 +238,18 @@ module _ {V : Type 0} (program : Program V) where
       } in (
         fetches a (fetches b 1),
         inl (some_steps a b),
-        prices (setting program) f (source_items 5 a) (prices (setting program) f (source_items 6 b) left),
+        prices (setting program) f (source_items FIRST_SCRATCH a)
+          (prices (setting program) f (source_items SECOND_SCRATCH b) left),
         (let p = both_paid s t a b left in omega (arith, p)),
         fetch_both program.reading (setting program) (Way program s s1) (At program s1) s.active.locals a b x y t (item
             ∷ items_of program s t on rest) 1 left ae be on.active.locals lies.stands (way_regs program s s1 t on.body)
             (λ regs known same va vb.
             let u : VirtualState = record t { regs = regs; known = known; pc = pc } in
             let here : ItemsOn program s t on pc (item ∷ items_of program s t on rest) =
-            past program t.active.found on.active.out p1 (source_items 6 b) (item
+            past program t.active.found on.active.out p1 (source_items SECOND_SCRATCH b) (item
             ∷ items_of program s t on rest) s.active.rests (past program t.active.found on.active.out t.pc
-            (source_items 5 a)
-            (source_items 6 b ++ (item ∷ items_of program s t on rest)) s.active.rests lies) in
+            (source_items FIRST_SCRATCH a)
+            (source_items SECOND_SCRATCH b ++ (item ∷ items_of program s t on rest)) s.active.rests lies) in
             let body = body_regs program s t regs known (suc pc) on.body same in
             does_item program.reading (setting program) (Way program s s1) (At program s1) 0
             (owed s.waiting) u (record u {

@@ -7,6 +7,7 @@ use Rattle.run_laws.specs.Machines.{Next, Go, Onward}
 use Rattle.rv_machine.specs.Registers.{Registers, set_reg}
 use Rattle.machine_words.specs.Halts.{Halt}
 use Rattle.low_ir.specs.Steps.{set_local, given, only_if}
+use Rattle.rv_select.specs.declared.convention.TheConstants.{STACK_END, ALLOCATION, REGION_END}
 use Rattle.rv_select.specs.declared.code.VReg.{VReg}
 use Rattle.rv_select.specs.declared.code.VReg.TheVariants.{Virtual}
 use Rattle.rv_select.specs.declared.code.VirtualItem.{VirtualItem}
@@ -30,9 +31,9 @@ wrote_local v word t = record t {
 
 -- the same words stand in x25, x26 and x27, which tell of stack and region
 pub record SameFixed (regs old : Registers) : Type 0 where
-  pub stack : regs 25 ≡ old 25
-  pub alloc : regs 26 ≡ old 26
-  pub top : regs 27 ≡ old 27
+  pub stack : regs STACK_END ≡ old STACK_END
+  pub alloc : regs ALLOCATION ≡ old ALLOCATION
+  pub top : regs REGION_END ≡ old REGION_END
 
 -- they are the same as themselves
 pub fixed_self : (regs : Registers) → SameFixed regs regs

@@ -2,6 +2,7 @@
 use Rattle.std.proofs.Common.{ℕ, zero, suc, ◌≡◌, ◌≢◌, ◌⊎◌, inl, inr, ⊎_elim, true, false, Bool, List, []}
 use Rattle.std.proofs.Common.{◌∷◌, Some, refl, sym, ◌∙◌, ap, subst, arith}
 use Rattle.std.specs.Prelude.{◌==◌, ◌&&◌, ◌||◌, slice_get}
+use Rattle.rv_select.specs.declared.convention.TheConstants.{FIRST_ARGUMENT, SECOND_ARGUMENT, ANSWER}
 use Rattle.rv_select.specs.declared.code.VReg.{VReg}
 use Rattle.rv_select.specs.declared.code.VReg.TheVariants.{Real, Virtual}
 use Rattle.rv_select.specs.declared.code.VirtualItem.{VirtualItem}
@@ -47,8 +48,8 @@ before M x L a = L a
 
 -- the set behind an item
 abbrev pub after : VirtualItem → (VReg → Bool) → VReg → Bool
-after (Call k n) L a = is_reg (Real 10) a || (L a && is_spared a)
-after (CallAt f n) L a = is_reg (Real 10) a || (L a && is_spared a)
+after (Call k n) L a = is_reg (Real ANSWER) a || (L a && is_spared a)
+after (CallAt f n) L a = is_reg (Real ANSWER) a || (L a && is_spared a)
 after x L a = among a (writes x) || L a
 
 -- the set before the item at a place
@@ -124,11 +125,12 @@ plain_flow : (a : VReg) (xs : List VReg) (b : Bool) → (among a xs || b) ≡ tr
 plain_flow a xs b e = ⊎_elim (λ h. inl h) (λ h. ⊎_elim (λ k. inl (among_true a xs k)) (λ k. inr (k.1, h))
     (or_split (among a xs) b e)) (among_or_none a xs)
 
-call_flow : (a : VReg) (L : VReg → Bool) → (is_reg (Real 10) a || (L a && is_spared a)) ≡ true → Among a (Real 10 ∷ [])
+call_flow : (a : VReg) (L : VReg → Bool) → (is_reg (Real ANSWER) a || (L a && is_spared a)) ≡ true
+    → Among a (Real ANSWER ∷ [])
     ⊎ ((L a ≡ true) × SparedByCall (place_of own a))
 call_flow a L e =
-    ⊎_elim (λ h. inl (inl (is_reg_true (Real 10) a h))) (λ h. let k = and_split (L a) (is_spared a) h.1 in
-    inr (k.0, spared_true a k.1)) (or_split (is_reg (Real 10) a) (L a && is_spared a) e)
+    ⊎_elim (λ h. inl (inl (is_reg_true (Real FIRST_ARGUMENT) a h))) (λ h. let k = and_split (L a) (is_spared a) h.1 in
+    inr (k.0, spared_true a k.1)) (or_split (is_reg (Real ANSWER) a) (L a && is_spared a) e)
 
 after_flow : (x : VirtualItem) (L : VReg → Bool) (a : VReg) → after x L a ≡ true → Flow x L a
 after_flow (Call k n) L a e = call_flow a L e
@@ -139,7 +141,7 @@ after_flow (Compute o rd b c) L a e = plain_flow a (rd ∷ []) (L a) e
 after_flow (ComputeWith o rd b n) L a e = plain_flow a (rd ∷ []) (L a) e
 after_flow (Load rd b offset) L a e = plain_flow a (rd ∷ []) (L a) e
 after_flow (CodeOf rd k) L a e = plain_flow a (rd ∷ []) (L a) e
-after_flow Environment L a e = plain_flow a (Real 10 ∷ Real 11 ∷ []) (L a) e
+after_flow Environment L a e = plain_flow a (Real FIRST_ARGUMENT ∷ Real SECOND_ARGUMENT ∷ []) (L a) e
 after_flow (Store b c offset) L a e = inr (e, tt)
 after_flow (Mark m) L a e = inr (e, tt)
 after_flow (Procedure k first count) L a e = inr (e, tt)

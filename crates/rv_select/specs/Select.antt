@@ -11,6 +11,9 @@ use Rattle.low_ir.specs.Procedures.{Code, Done, Set, Compute as LowCompute, Load
 use Rattle.low_ir.specs.Procedures.{CodeOf as LowCodeOf, Build, Request, Take, Environment as LowEnvironment}
 use Rattle.low_ir.specs.Procedures.{Call as LowCall, CallAt as LowCallAt, If, Return as LowReturn}
 use Rattle.low_ir.specs.Procedures.{TailCall as LowTailCall, TailCallAt as LowTailCallAt, Proc}
+use Rattle.rv_select.specs.declared.convention.TheConstants.{ZERO, FIRST_SCRATCH, SECOND_SCRATCH, THIRD_SCRATCH}
+use Rattle.rv_select.specs.declared.convention.TheConstants.{FIRST_ARGUMENT, SECOND_ARGUMENT, ANSWER, CALL_NUMBER}
+use Rattle.rv_select.specs.declared.convention.TheConstants.{ALLOCATION, REGION_END, END_CALL, REGION_OUT_CALL}
 use Rattle.rv_select.specs.Run.{fits_item}
 use Rattle.rv_select.specs.declared.code.VReg.{VReg}
 use Rattle.rv_select.specs.declared.code.VReg.TheVariants.{Real, Virtual}
@@ -27,7 +30,7 @@ put_item first rd (Number n) = Constant rd n
 -- the register in which a source is found, told one for numbers; 0 is always in x0
 abbrev pub source_reg : ℕ → ℕ → LowSource → VReg
 source_reg first r (Word i) = Virtual (first + i)
-source_reg first r (Number zero) = Real 0
+source_reg first r (Number zero) = Real ZERO
 source_reg first r (Number (suc n)) = Real r
 
 -- what puts it there
@@ -49,28 +52,31 @@ number_of (Number n) = n
 -- what puts the second source of an operation into its register, unless it stands in the item
 abbrev pub second_items : Bool → LowSource → List VirtualItem
 second_items true b = []
-second_items false b = source_items 6 b
+second_items false b = source_items SECOND_SCRATCH b
 
 -- the item of an operation, whose second source stands in it or not
 abbrev pub compute_item : Bool → ℕ → WordOp → VReg → LowSource → LowSource → VirtualItem
-compute_item true first op rd a b = ComputeWith op rd (source_reg first 5 a) (number_of b)
-compute_item false first op rd a b = Compute op rd (source_reg first 5 a) (source_reg first 6 b)
+compute_item true first op rd a b = ComputeWith op rd (source_reg first FIRST_SCRATCH a) (number_of b)
+compute_item false first op rd a b =
+    Compute op rd (source_reg first FIRST_SCRATCH a) (source_reg first SECOND_SCRATCH b)
 
 -- the words that a call hands on, from a number on
 abbrev pub args_items : ℕ → ℕ → List LowSource → List VirtualItem
 args_items first from [] = []
-args_items first from (a ∷ args) = put_item first (Real (10 + from)) a ∷ args_items first (suc from) args
+args_items first from (a ∷ args) = put_item first (Real (FIRST_ARGUMENT + from)) a ∷ args_items first (suc from) args
 
 -- so many parameters, from a number on
 abbrev pub params_items : ℕ → ℕ → ℕ → List VirtualItem
 params_items first from zero = []
-params_items first from (suc n) = Move (Virtual (first + from)) (Real (10 + from)) ∷ params_items first (suc from) n
+params_items first from (suc n) =
+    Move (Virtual (first + from)) (Real (FIRST_ARGUMENT + from)) ∷ params_items first (suc from) n
 
 -- words go into the room behind the allocation word, from an offset on
 abbrev pub stores_items : ℕ → ℕ → List LowSource → List VirtualItem
 stores_items first offset [] = []
 stores_items first offset (a ∷ args) =
-    source_items 5 a ++ (Store (source_reg first 5 a) (Real 26) offset ∷ stores_items first (offset + 8) args)
+    source_items FIRST_SCRATCH a ++ (Store (source_reg first FIRST_SCRATCH a) (Real ALLOCATION) offset
+    ∷ stores_items first (offset + 8) args)
 
 -- ---- the parts of a code, told the first register of the procedure
 
@@ -78,61 +84,68 @@ module _ (first : ℕ) where
   -- a word is set to what an operation gives
   abbrev pub compute_items : WordOp → ℕ → LowSource → LowSource → List VirtualItem → List VirtualItem
   compute_items op d a b more =
-      source_items 5 a ++ (second_items (is_small op b) b
+      source_items FIRST_SCRATCH a ++ (second_items (is_small op b) b
       ++ (compute_item (is_small op b) first op (Virtual (first + d)) a b ∷ more))
 
   -- a word is loaded
   abbrev pub load_items : ℕ → LowSource → ℕ → List VirtualItem → List VirtualItem
   load_items d a offset more =
-      source_items 5 a ++ (Load (Virtual (first + d)) (source_reg first 5 a) offset ∷ more)
+      source_items FIRST_SCRATCH a ++ (Load (Virtual (first + d)) (source_reg first FIRST_SCRATCH a) offset ∷ more)
 
   -- the first source is stored at the address in the second
   abbrev pub store_items : LowSource → LowSource → ℕ → List VirtualItem → List VirtualItem
   store_items b a offset more =
-      source_items 5 a ++ (source_items 6 b ++ (Store (source_reg first 6 b) (source_reg first 5 a) offset ∷ more))
+      source_items FIRST_SCRATCH a ++ (source_items SECOND_SCRATCH b
+      ++ (Store (source_reg first SECOND_SCRATCH b) (source_reg first FIRST_SCRATCH a) offset ∷ more))
 
   -- the test for room, the words, and then the allocation word moves past them; told the mark behind which there is
   -- no room
   abbrev pub build_items : ℕ → ℕ → List LowSource → List VirtualItem → List VirtualItem
   build_items out d args more =
-      Compute Sub (Real 5) (Real 27) (Real 26) ∷ Constant (Real 6) (8 * length args) ∷ Branch Ltu (Real 5) (Real 6) out
+      Compute Sub (Real FIRST_SCRATCH) (Real REGION_END) (Real ALLOCATION)
+      ∷ Constant (Real SECOND_SCRATCH) (8 * length args)
+      ∷ Branch Ltu (Real FIRST_SCRATCH) (Real SECOND_SCRATCH) out
       ∷ (stores_items first 0 args
-      ++ (Move (Virtual (first + d)) (Real 26) ∷ Compute Add (Real 26) (Real 26) (Real 6) ∷ more))
+      ++ (Move (Virtual (first + d)) (Real ALLOCATION)
+      ∷ Compute Add (Real ALLOCATION) (Real ALLOCATION) (Real SECOND_SCRATCH) ∷ more))
 
   -- the test for room for so many words, and a word is set to where that begins
   abbrev pub request_items : ℕ → ℕ → LowSource → List VirtualItem → List VirtualItem
   request_items out d a more =
-      source_items 7 a ++ (Compute Sub (Real 5) (Real 27) (Real 26) ∷ ComputeWith Srl (Real 5) (Real 5) 3
-      ∷ Branch Ltu (Real 5) (source_reg first 7 a) out ∷ Move (Virtual (first + d)) (Real 26) ∷ more)
+      source_items THIRD_SCRATCH a ++ (Compute Sub (Real FIRST_SCRATCH) (Real REGION_END) (Real ALLOCATION)
+      ∷ ComputeWith Srl (Real FIRST_SCRATCH) (Real FIRST_SCRATCH) 3
+      ∷ Branch Ltu (Real FIRST_SCRATCH) (source_reg first THIRD_SCRATCH a) out
+      ∷ Move (Virtual (first + d)) (Real ALLOCATION) ∷ more)
 
   -- the allocation word moves past so many words
   abbrev pub take_items : LowSource → List VirtualItem → List VirtualItem
   take_items a more =
-      source_items 7 a ++ (ComputeWith Sll (Real 5) (source_reg first 7 a) 3
-      ∷ Compute Add (Real 26) (Real 26) (Real 5) ∷ more)
+      source_items THIRD_SCRATCH a ++ (ComputeWith Sll (Real FIRST_SCRATCH) (source_reg first THIRD_SCRATCH a) 3
+      ∷ Compute Add (Real ALLOCATION) (Real ALLOCATION) (Real FIRST_SCRATCH) ∷ more)
 
   -- an environment call with two words, and where it goes on its two words are set
   abbrev pub environment_items : ℕ → LowSource → LowSource → ℕ → ℕ → List VirtualItem → List VirtualItem
   environment_items number a b d e more =
-      put_item first (Real 10) a ∷ put_item first (Real 11) b ∷ Constant (Real 17) number ∷ Environment
-      ∷ Move (Virtual (first + d)) (Real 10) ∷ Move (Virtual (first + e)) (Real 11) ∷ more
+      put_item first (Real FIRST_ARGUMENT) a ∷ put_item first (Real SECOND_ARGUMENT) b
+      ∷ Constant (Real CALL_NUMBER) number ∷ Environment ∷ Move (Virtual (first + d)) (Real FIRST_ARGUMENT)
+      ∷ Move (Virtual (first + e)) (Real SECOND_ARGUMENT) ∷ more
 
   -- a procedure is called by its number, and a word is set to its answer
   abbrev pub call_items : ℕ → ℕ → List LowSource → List VirtualItem → List VirtualItem
   call_items d k args more =
-      args_items first 0 args ++ (Call k (length args) ∷ Move (Virtual (first + d)) (Real 10) ∷ more)
+      args_items first 0 args ++ (Call k (length args) ∷ Move (Virtual (first + d)) (Real ANSWER) ∷ more)
 
   -- one is called by its code address
   abbrev pub call_at_items : ℕ → LowSource → List LowSource → List VirtualItem → List VirtualItem
   call_at_items d f args more =
-      source_items 7 f ++ (args_items first 0 args
-      ++ (CallAt (source_reg first 7 f) (length args) ∷ Move (Virtual (first + d)) (Real 10) ∷ more))
+      source_items THIRD_SCRATCH f ++ (args_items first 0 args
+      ++ (CallAt (source_reg first THIRD_SCRATCH f) (length args) ∷ Move (Virtual (first + d)) (Real ANSWER) ∷ more))
 
   -- goes to a mark where the condition holds
   abbrev pub branch_items : Cond → LowSource → LowSource → ℕ → List VirtualItem → List VirtualItem
   branch_items cond a b mark more =
-      source_items 5 a ++ (source_items 6 b
-      ++ (Branch cond (source_reg first 5 a) (source_reg first 6 b) mark ∷ more))
+      source_items FIRST_SCRATCH a ++ (source_items SECOND_SCRATCH b
+      ++ (Branch cond (source_reg first FIRST_SCRATCH a) (source_reg first SECOND_SCRATCH b) mark ∷ more))
 
   -- a procedure goes on in place of this one, by its number
   abbrev pub tail_call_items : ℕ → List LowSource → List VirtualItem
@@ -141,7 +154,8 @@ module _ (first : ℕ) where
   -- one goes on by its code address
   abbrev pub tail_call_at_items : LowSource → List LowSource → List VirtualItem
   tail_call_at_items f args =
-      source_items 7 f ++ (args_items first 0 args ++ (TailCallAt (source_reg first 7 f) (length args) ∷ []))
+      source_items THIRD_SCRATCH f ++ (args_items first 0 args
+      ++ (TailCallAt (source_reg first THIRD_SCRATCH f) (length args) ∷ []))
 
 -- ---- whole codes
 
@@ -185,14 +199,15 @@ module _ (first out : ℕ) where
       branch_items first cond a b m (code_items (suc (suc m)) other
       ++ (Jump (suc m) ∷ Mark m ∷ (code_items (suc (suc m) + marks_in other) one
       ++ (Mark (suc m) ∷ code_items (suc (suc m) + marks_in other + marks_in one) rest))))
-  code_items m (LowReturn a) = put_item first (Real 10) a ∷ Return ∷ []
+  code_items m (LowReturn a) = put_item first (Real ANSWER) a ∷ Return ∷ []
   code_items m (LowTailCall k args) = tail_call_items first k args
   code_items m (LowTailCallAt f args) = tail_call_at_items first f args
 
 -- where a request finds no room; the jump is never reached
 abbrev pub out_items : ℕ → List VirtualItem
 out_items out =
-    Mark out ∷ Constant (Real 10) 0 ∷ Constant (Real 11) 0 ∷ Constant (Real 17) 5 ∷ Environment ∷ Jump out ∷ []
+    Mark out ∷ Constant (Real FIRST_ARGUMENT) 0 ∷ Constant (Real SECOND_ARGUMENT) 0
+    ∷ Constant (Real CALL_NUMBER) REGION_OUT_CALL ∷ Environment ∷ Jump out ∷ []
 
 -- the code of a procedure behind its mark; its own marks are numbered from one on
 abbrev pub body_items : ℕ → ℕ → Proc → List VirtualItem
@@ -212,7 +227,9 @@ procs_items k first mark (p ∷ ps) =
 -- what stands behind the call of the program's first procedure: environment call 0 with kind 0 and its answer; the
 -- return is never reached
 abbrev pub answer_items : List VirtualItem
-answer_items = Move (Real 11) (Real 10) ∷ Constant (Real 10) 0 ∷ Constant (Real 17) 0 ∷ Environment ∷ Return ∷ []
+answer_items =
+    Move (Real SECOND_ARGUMENT) (Real ANSWER) ∷ Constant (Real FIRST_ARGUMENT) 0 ∷ Constant (Real CALL_NUMBER) END_CALL
+    ∷ Environment ∷ Return ∷ []
 
 -- the code of a program, told the number of the procedure that it begins with; the marks behind those of the procedures
 -- are its own

@@ -15,6 +15,8 @@ use Rattle.rv_select.specs.declared.code.Place.TheVariants.{Slot}
 use Rattle.rv_select.specs.declared.code.VReg.TheVariants.{Real}
 use Rattle.rv_select.specs.declared.code.VirtualItem.{VirtualItem}
 use Rattle.rv_select.specs.declared.code.VirtualItem.TheVariants.{Constant, Move, Procedure, Call, Environment}
+use Rattle.rv_select.specs.declared.convention.TheConstants.{FIRST_ARGUMENT, SECOND_ARGUMENT, ANSWER, CALL_NUMBER}
+use Rattle.rv_select.specs.declared.convention.TheConstants.{STACK_END, ALLOCATION, REGION_END, END_CALL}
 use Rattle.rv_select.specs.Fitting.{each_fits}
 use Rattle.rv_select.specs.Holding.{Sets, IsHolding}
 use Rattle.rv_select.specs.Marks.{procedures, numbers_from, each_has_work, HaveOwn}
@@ -50,17 +52,17 @@ pub record Begins (low : LowSetting) (entry : ℕ) (p : Proc) (regs : Registers)
   pub ordered : low.region ≤ low.top
   pub small : low.top < 2 ^ 64
   -- x26 has its start, and x27 its end
-  pub alloc : regs 26 ≡ low.region
-  pub region_end : regs 27 ≡ low.top
+  pub alloc : regs ALLOCATION ≡ low.region
+  pub region_end : regs REGION_END ≡ low.top
 
 -- from such a beginning a run of items follows a run over words, and shows the same region; its items cost no more than
 -- the steps of that run, and the start
 pub record Simulates {V : Type 0} (X : Machine VirtualState Shown V) (Y : Machine LowState LowShown V)
     (setting : Setting) (low : LowSetting) (p : Proc) (regs : Registers) (memory : Memory) (world : WorldState)
     : Type 0 where
-  pub follows : FollowsBy (SameRegion (regs 25) low.top) Any (run X (virtual_start regs memory world))
+  pub follows : FollowsBy (SameRegion (regs STACK_END) low.top) Any (run X (virtual_start regs memory world))
       (run Y (low_start low p memory world))
-  pub turns : FollowsBy (OfRest (SameRegion (regs 25) low.top)) (Spends 1)
+  pub turns : FollowsBy (OfRest (SameRegion (regs STACK_END) low.top)) (Spends 1)
       (run (metered (virtual_price setting) X) (unspent (virtual_start regs memory world)))
       (run (metered (low_price low.procs) Y) (record { spent = start_price; rest = low_start low p memory world }))
 
@@ -85,8 +87,8 @@ RunsInStackAsWords reading items procs entry =
 -- a call of the first procedure, and then environment call 0 with kind 0 and its answer
 abbrev pub BeginsAsSaid : List VirtualItem → ℕ → Type 0
 BeginsAsSaid items entry =
-    (rest : List VirtualItem) × (items ≡ Call entry 0 ∷ Move (Real 11) (Real 10) ∷ Constant (Real 10) 0
-    ∷ Constant (Real 17) 0 ∷ Environment ∷ rest)
+    (rest : List VirtualItem) × (items ≡ Call entry 0 ∷ Move (Real SECOND_ARGUMENT) (Real ANSWER)
+    ∷ Constant (Real FIRST_ARGUMENT) 0 ∷ Constant (Real CALL_NUMBER) END_CALL ∷ Environment ∷ rest)
 
 -- the items, with so many virtual registers, are the code of these procedures, which begins with the one of a number
 pub record IsCodeOf (items : List VirtualItem) (registers : ℕ) (procs : List Proc) (entry : ℕ) : Type 0 where

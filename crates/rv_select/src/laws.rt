@@ -11,6 +11,7 @@ ghost use Rattle.low_ir.specs.Procedures.{Proc};
 ghost use Rattle.low_ir.specs.Run.{Setting, LowShown, low_machine, low_start};
 ghost use Rattle.rv_select.specs.declared.code.Place.TheVariants.{InReg};
 ghost use Rattle.rv_select.specs.declared.code.VReg.TheVariants.{Real};
+ghost use Rattle.rv_select.specs.declared.convention.TheConstants.{ANSWER};
 ghost use Rattle.rv_select.specs.Run.{Setting as VirtualSetting, VirtualState, may_read, value, back_to};
 ghost use Rattle.rv_select.specs.Holding.{SparedByCall};
 ghost use Rattle.rv_select.specs.Stacks.{frame_size};
@@ -39,6 +40,6 @@ pub fn frames_go_by_the_size_of_code()
 /// back.
 pub fn calls_spare_what_is_known_behind_them<V>()
     ensures { (reading : Halt → Ending V) (setting : VirtualSetting) (t behind : VirtualState) (r : ℕ)
-        → back_to reading setting t.frames t ≡ Go behind → r ≢ 10 → may_read r ≡ true
+        → back_to reading setting t.frames t ≡ Go behind → r ≢ ANSWER → may_read r ≡ true
         → SparedByCall (InReg r) ↔ IsSome (value behind (Real r)) }
 {}

@@ -3,6 +3,7 @@
 #![tactic(auto)]
 
 pub mod code;
+pub mod convention;
 pub mod laws;
 mod parts;
 pub mod selection;

@@ -8,22 +8,14 @@ ghost use Rattle.rv_select.specs.Select.{take_items, environment_items, call_ite
 ghost use Rattle.rv_select.specs.Select.{tail_call_at_items, out_items, answer_items};
 
 use crate::code::{VReg, VirtualItem, VirtualItems};
+use crate::convention::{
+    ALLOCATION, ANSWER, CALL_NUMBER, END_CALL, FIRST_ARGUMENT, FIRST_SCRATCH, REGION_END,
+    REGION_OUT_CALL, SECOND_ARGUMENT, SECOND_SCRATCH, THIRD_SCRATCH, ZERO,
+};
 use grift_base::lists::OutOfMemory;
 use low_ir::code::{LowSource, LowSources, WordOp};
 use machine_words::conditions::Cond;
 use rv_isa::number::Reg;
-
-// The first register that hands on words; the answer comes back in it.
-const FIRST_WORD: u8 = 10;
-
-// The number of an environment call stands here.
-const CALL_NUMBER: u8 = 17;
-
-// The allocation word.
-const ALLOCATION: u8 = 26;
-
-// The region's end.
-const REGION_END: u8 = 27;
 
 // A real register, by its number.
 pub fn real(number: u8) -> VReg
@@ -60,7 +52,11 @@ fn source_reg(first: u32, scratch: u8, a: LowSource) -> Result<VReg, OutOfMemory
 {
     match a {
         LowSource::Word(word) => local(first, word),
-        LowSource::Number(number) => Ok(if number == 0 { real(0) } else { real(scratch) }),
+        LowSource::Number(number) => Ok(if number == 0 {
+            real(ZERO)
+        } else {
+            real(scratch)
+        }),
     }
 }
 
@@ -102,16 +98,16 @@ pub fn put_compute(
 ) -> Result<(), OutOfMemory>
     ensures { OnOk result (items.new ≡ items.old ++ compute_items first op word a b []) }
 {
-    put_source(items, 5, a)?;
+    put_source(items, FIRST_SCRATCH, a)?;
     let rd = local(first, word)?;
-    let left = source_reg(first, 5, a)?;
+    let left = source_reg(first, FIRST_SCRATCH, a)?;
     match b {
         LowSource::Number(number) if fits_item(op, number) => {
             items.push(VirtualItem::ComputeWith(op, rd, left, number as u32))
         }
         _ => {
-            put_source(items, 6, b)?;
-            items.push(VirtualItem::Compute(op, rd, left, source_reg(first, 6, b)?))
+            put_source(items, SECOND_SCRATCH, b)?;
+            items.push(VirtualItem::Compute(op, rd, left, source_reg(first, SECOND_SCRATCH, b)?))
         }
     }
 }
@@ -126,8 +122,12 @@ pub fn put_load(
 ) -> Result<(), OutOfMemory>
     ensures { OnOk result (items.new ≡ items.old ++ load_items first word a offset []) }
 {
-    put_source(items, 5, a)?;
-    items.push(VirtualItem::Load(local(first, word)?, source_reg(first, 5, a)?, offset))
+    put_source(items, FIRST_SCRATCH, a)?;
+    items.push(VirtualItem::Load(
+        local(first, word)?,
+        source_reg(first, FIRST_SCRATCH, a)?,
+        offset,
+    ))
 }
 
 // Adds a store of the first source at an address.
@@ -140,9 +140,13 @@ pub fn put_store(
 ) -> Result<(), OutOfMemory>
     ensures { OnOk result (items.new ≡ items.old ++ store_items first b a offset []) }
 {
-    put_source(items, 5, a)?;
-    put_source(items, 6, b)?;
-    items.push(VirtualItem::Store(source_reg(first, 6, b)?, source_reg(first, 5, a)?, offset))
+    put_source(items, FIRST_SCRATCH, a)?;
+    put_source(items, SECOND_SCRATCH, b)?;
+    items.push(VirtualItem::Store(
+        source_reg(first, SECOND_SCRATCH, b)?,
+        source_reg(first, FIRST_SCRATCH, a)?,
+        offset,
+    ))
 }
 
 // Adds the items that hand words on.
@@ -152,7 +156,7 @@ pub fn put_args(items: &mut VirtualItems, first: u32, args: &LowSources) -> Resu
 {
     let args = args.as_slice();
     for i in 0..args.len() {
-        items.push(put_item(first, real(FIRST_WORD + i as u8), args[i])?)?;
+        items.push(put_item(first, real(FIRST_ARGUMENT + i as u8), args[i])?)?;
     }
     Ok(())
 }
@@ -171,7 +175,7 @@ pub fn put_head(
 {
     items.push(VirtualItem::Procedure(number, first, words))?;
     for i in 0..params {
-        items.push(VirtualItem::Move(local(first, i)?, real(FIRST_WORD + i as u8)))?;
+        items.push(VirtualItem::Move(local(first, i)?, real(FIRST_ARGUMENT + i as u8)))?;
     }
     Ok(())
 }
@@ -183,8 +187,8 @@ fn put_stores(items: &mut VirtualItems, first: u32, args: &LowSources) -> Result
 {
     let args = args.as_slice();
     for i in 0..args.len() {
-        put_source(items, 5, args[i])?;
-        let word = source_reg(first, 5, args[i])?;
+        put_source(items, FIRST_SCRATCH, args[i])?;
+        let word = source_reg(first, FIRST_SCRATCH, args[i])?;
         items.push(VirtualItem::Store(word, real(ALLOCATION), 8 * i as u32))?;
     }
     Ok(())
@@ -201,7 +205,7 @@ pub fn put_build(
     requires { length args.now < 256 }
     ensures { OnOk result (items.new ≡ items.old ++ build_items first out word args.now []) }
 {
-    let (free, size) = (real(5), real(6));
+    let (free, size) = (real(FIRST_SCRATCH), real(SECOND_SCRATCH));
     let alloc = real(ALLOCATION);
     items.push(VirtualItem::Compute(WordOp::Sub, free, real(REGION_END), alloc))?;
     items.push(VirtualItem::Constant(size, 8 * args.len()))?;
@@ -221,12 +225,12 @@ pub fn put_request(
 ) -> Result<(), OutOfMemory>
     ensures { OnOk result (items.new ≡ items.old ++ request_items first out word a []) }
 {
-    let free = real(5);
+    let free = real(FIRST_SCRATCH);
     let alloc = real(ALLOCATION);
-    put_source(items, 7, a)?;
+    put_source(items, THIRD_SCRATCH, a)?;
     items.push(VirtualItem::Compute(WordOp::Sub, free, real(REGION_END), alloc))?;
     items.push(VirtualItem::ComputeWith(WordOp::Srl, free, free, 3))?;
-    items.push(VirtualItem::Branch(Cond::Ltu, free, source_reg(first, 7, a)?, out))?;
+    items.push(VirtualItem::Branch(Cond::Ltu, free, source_reg(first, THIRD_SCRATCH, a)?, out))?;
     items.push(VirtualItem::Move(local(first, word)?, alloc))
 }
 
@@ -234,10 +238,15 @@ pub fn put_request(
 pub fn put_take(items: &mut VirtualItems, first: u32, a: LowSource) -> Result<(), OutOfMemory>
     ensures { OnOk result (items.new ≡ items.old ++ take_items first a []) }
 {
-    let bytes = real(5);
+    let bytes = real(FIRST_SCRATCH);
     let alloc = real(ALLOCATION);
-    put_source(items, 7, a)?;
-    items.push(VirtualItem::ComputeWith(WordOp::Sll, bytes, source_reg(first, 7, a)?, 3))?;
+    put_source(items, THIRD_SCRATCH, a)?;
+    items.push(VirtualItem::ComputeWith(
+        WordOp::Sll,
+        bytes,
+        source_reg(first, THIRD_SCRATCH, a)?,
+        3,
+    ))?;
     items.push(VirtualItem::Compute(WordOp::Add, alloc, alloc, bytes))
 }
 
@@ -252,7 +261,7 @@ pub fn put_environment(
     ensures { OnOk result (
         items.new ≡ items.old ++ environment_items first number handed.0 handed.1 words.0 words.1 []) }
 {
-    let (one, two) = (real(FIRST_WORD), real(FIRST_WORD + 1));
+    let (one, two) = (real(FIRST_ARGUMENT), real(SECOND_ARGUMENT));
     items.push(put_item(first, one, handed.0)?)?;
     items.push(put_item(first, two, handed.1)?)?;
     items.push(VirtualItem::Constant(real(CALL_NUMBER), number))?;
@@ -274,7 +283,7 @@ pub fn put_call(
 {
     put_args(items, first, args)?;
     items.push(VirtualItem::Call(number, args.len() as u32))?;
-    items.push(VirtualItem::Move(local(first, word)?, real(FIRST_WORD)))
+    items.push(VirtualItem::Move(local(first, word)?, real(ANSWER)))
 }
 
 // Adds a call of the procedure with a code address.
@@ -288,10 +297,10 @@ pub fn put_call_at(
     requires { length args.now ≤ 8 }
     ensures { OnOk result (items.new ≡ items.old ++ call_at_items first word at args.now []) }
 {
-    put_source(items, 7, at)?;
+    put_source(items, THIRD_SCRATCH, at)?;
     put_args(items, first, args)?;
-    items.push(VirtualItem::CallAt(source_reg(first, 7, at)?, args.len() as u32))?;
-    items.push(VirtualItem::Move(local(first, word)?, real(FIRST_WORD)))
+    items.push(VirtualItem::CallAt(source_reg(first, THIRD_SCRATCH, at)?, args.len() as u32))?;
+    items.push(VirtualItem::Move(local(first, word)?, real(ANSWER)))
 }
 
 // Adds a branch to a mark, taken where the condition holds.
@@ -305,18 +314,18 @@ pub fn put_branch(
     ensures { OnOk result (items.new ≡ items.old ++ branch_items first cond operands.0 operands.1 mark []) }
 {
     let (a, b) = operands;
-    put_source(items, 5, a)?;
-    put_source(items, 6, b)?;
-    let left = source_reg(first, 5, a)?;
-    items.push(VirtualItem::Branch(cond, left, source_reg(first, 6, b)?, mark))
+    put_source(items, FIRST_SCRATCH, a)?;
+    put_source(items, SECOND_SCRATCH, b)?;
+    let left = source_reg(first, FIRST_SCRATCH, a)?;
+    items.push(VirtualItem::Branch(cond, left, source_reg(first, SECOND_SCRATCH, b)?, mark))
 }
 
 // Adds the procedure's answer.
 pub fn put_return(items: &mut VirtualItems, first: u32, a: LowSource) -> Result<(), OutOfMemory>
     ensures { OnOk result (
-        items.new ≡ items.old ++ (put_item first (VReg.Real 10) a ∷ VirtualItem.Return ∷ [])) }
+        items.new ≡ items.old ++ (put_item first (VReg.Real ANSWER) a ∷ VirtualItem.Return ∷ [])) }
 {
-    items.push(put_item(first, real(FIRST_WORD), a)?)?;
+    items.push(put_item(first, real(ANSWER), a)?)?;
     items.push(VirtualItem::Return)
 }
 
@@ -330,9 +339,9 @@ pub fn put_tail_call_at(
     requires { length args.now ≤ 8 }
     ensures { OnOk result (items.new ≡ items.old ++ tail_call_at_items first at args.now) }
 {
-    put_source(items, 7, at)?;
+    put_source(items, THIRD_SCRATCH, at)?;
     put_args(items, first, args)?;
-    items.push(VirtualItem::TailCallAt(source_reg(first, 7, at)?, args.len() as u32))
+    items.push(VirtualItem::TailCallAt(source_reg(first, THIRD_SCRATCH, at)?, args.len() as u32))
 }
 
 // Adds the place where a request finds no room.
@@ -340,9 +349,9 @@ pub fn put_out(items: &mut VirtualItems, out: u32) -> Result<(), OutOfMemory>
     ensures { OnOk result (items.new ≡ items.old ++ out_items out) }
 {
     items.push(VirtualItem::Mark(out))?;
-    items.push(VirtualItem::Constant(real(FIRST_WORD), 0))?;
-    items.push(VirtualItem::Constant(real(FIRST_WORD + 1), 0))?;
-    items.push(VirtualItem::Constant(real(CALL_NUMBER), 5))?;
+    items.push(VirtualItem::Constant(real(FIRST_ARGUMENT), 0))?;
+    items.push(VirtualItem::Constant(real(SECOND_ARGUMENT), 0))?;
+    items.push(VirtualItem::Constant(real(CALL_NUMBER), REGION_OUT_CALL))?;
     items.push(VirtualItem::Environment)?;
     items.push(VirtualItem::Jump(out))
 }
@@ -352,9 +361,9 @@ pub fn put_start(items: &mut VirtualItems, entry: u32) -> Result<(), OutOfMemory
     ensures { OnOk result (items.new ≡ items.old ++ (VirtualItem.Call entry 0 ∷ answer_items)) }
 {
     items.push(VirtualItem::Call(entry, 0))?;
-    items.push(VirtualItem::Move(real(FIRST_WORD + 1), real(FIRST_WORD)))?;
-    items.push(VirtualItem::Constant(real(FIRST_WORD), 0))?;
-    items.push(VirtualItem::Constant(real(CALL_NUMBER), 0))?;
+    items.push(VirtualItem::Move(real(SECOND_ARGUMENT), real(ANSWER)))?;
+    items.push(VirtualItem::Constant(real(FIRST_ARGUMENT), 0))?;
+    items.push(VirtualItem::Constant(real(CALL_NUMBER), END_CALL))?;
     items.push(VirtualItem::Environment)?;
     items.push(VirtualItem::Return)
 }

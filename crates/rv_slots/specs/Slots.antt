@@ -17,6 +17,8 @@ use Rattle.rv_machine.specs.declared.real.RealItem.TheVariants.{Branch as RealBr
 use Rattle.low_ir.specs.declared.code.WordOp.{WordOp}
 use Rattle.low_ir.specs.declared.code.WordOp.TheVariants.{Add, Sub, And, Or, Xor, Sll, Srl, Sra, Slt, Sltu}
 use Rattle.rv_select.specs.Stacks.{frame_size}
+use Rattle.rv_select.specs.declared.convention.TheConstants.{ZERO, LINK, STACK_POINTER, CALL_NUMBER, STACK_END}
+use Rattle.rv_select.specs.declared.convention.TheConstants.{ALLOCATION, STACK_OUT_CALL}
 use Rattle.rv_select.specs.declared.code.VReg.{VReg}
 use Rattle.rv_select.specs.declared.code.VReg.TheVariants.{Real, Virtual}
 use Rattle.rv_select.specs.declared.code.VirtualItem.{VirtualItem}
@@ -88,23 +90,23 @@ lower_of word = if nat_lt (word % 4096) 2048 then pos (word % 4096) else negsuc 
 abbrev pub long_items : ℕ → ℕ → List RealItem
 long_items rd word =
     if is_half word then Op (Lui rd (upper_of word)) ∷ Op (Addiw rd rd (lower_of word)) ∷ []
-    else Op (Addi rd 0 (pos (chunk_of word 5))) ∷ chunk_items rd word 5
+    else Op (Addi rd ZERO (pos (chunk_of word 5))) ∷ chunk_items rd word 5
 
 -- a word is put into a register
 abbrev pub word_items : ℕ → ℕ → List RealItem
-word_items rd word = if nat_lt word 2048 then Op (Addi rd 0 (pos word)) ∷ [] else long_items rd word
+word_items rd word = if nat_lt word 2048 then Op (Addi rd ZERO (pos word)) ∷ [] else long_items rd word
 
 -- a register is loaded from the slot at an offset
 abbrev pub slot_fetch : ℕ → ℕ → List RealItem
 slot_fetch rd offset =
-    if nat_lt offset 2048 then Op (Ld rd 2 (pos offset)) ∷ []
-    else word_items rd offset ++ (Op (AddInst rd rd 2) ∷ Op (Ld rd rd (pos 0)) ∷ [])
+    if nat_lt offset 2048 then Op (Ld rd STACK_POINTER (pos offset)) ∷ []
+    else word_items rd offset ++ (Op (AddInst rd rd STACK_POINTER) ∷ Op (Ld rd rd (pos 0)) ∷ [])
 
 -- a register is stored in the slot at an offset; a large one goes through x29
 abbrev pub slot_save_of : ℕ → ℕ → List RealItem
 slot_save_of r offset =
-    if nat_lt offset 2048 then Op (Sd r 2 (pos offset)) ∷ []
-    else word_items 29 offset ++ (Op (AddInst 29 29 2) ∷ Op (Sd r 29 (pos 0)) ∷ [])
+    if nat_lt offset 2048 then Op (Sd r STACK_POINTER (pos offset)) ∷ []
+    else word_items 29 offset ++ (Op (AddInst 29 29 STACK_POINTER) ∷ Op (Sd r 29 (pos 0)) ∷ [])
 
 -- x28 is stored there
 abbrev pub slot_save : ℕ → List RealItem
@@ -123,7 +125,7 @@ save_items first (Virtual v) = slot_save (slot_offset first v)
 -- a number is put where it belongs; the allocation word never has a part of one
 abbrev pub constant_items : ℕ → VReg → ℕ → List RealItem
 constant_items first (Real r) word =
-    if r == 26 then word_items 28 word ++ (Op (Addi r 28 (pos 0)) ∷ []) else word_items r word
+    if r == ALLOCATION then word_items 28 word ++ (Op (Addi r 28 (pos 0)) ∷ []) else word_items r word
 constant_items first (Virtual v) word = word_items 28 word ++ slot_save (slot_offset first v)
 
 -- a word is moved, through x28 only from slot to slot and to the allocation word; where it is there already nothing is
@@ -131,7 +133,7 @@ constant_items first (Virtual v) word = word_items 28 word ++ slot_save (slot_of
 abbrev pub move_items : ℕ → VReg → VReg → List RealItem
 move_items first (Real r) (Real a) = if r == a then [] else Op (Addi r a (pos 0)) ∷ []
 move_items first (Real r) (Virtual v) =
-    if r == 26 then slot_fetch 28 (slot_offset first v) ++ (Op (Addi r 28 (pos 0)) ∷ [])
+    if r == ALLOCATION then slot_fetch 28 (slot_offset first v) ++ (Op (Addi r 28 (pos 0)) ∷ [])
     else slot_fetch r (slot_offset first v)
 move_items first (Virtual v) (Real a) = slot_save_of a (slot_offset first v)
 move_items first (Virtual v) (Virtual u) = slot_fetch 28 (slot_offset first u) ++ slot_save (slot_offset first v)
@@ -140,17 +142,18 @@ move_items first (Virtual v) (Virtual u) = slot_fetch 28 (slot_offset first u) +
 abbrev pub enter_items : ℕ → ℕ → List RealItem
 enter_items out count =
     word_items 28 (frame_size count)
-    ++ (Op (SubInst 29 2 25) ∷ RealBranch Ltu 29 28 out ∷ Op (SubInst 2 2 28) ∷ Op (Sd 1 2 (pos 0)) ∷ [])
+    ++ (Op (SubInst 29 STACK_POINTER STACK_END) ∷ RealBranch Ltu 29 28 out
+    ∷ Op (SubInst STACK_POINTER STACK_POINTER 28) ∷ Op (Sd LINK STACK_POINTER (pos 0)) ∷ [])
 
 -- x2 is raised by so many bytes
 abbrev pub raise_items : ℕ → List RealItem
 raise_items size =
-    if nat_lt size 2048 then Op (Addi 2 2 (pos size)) ∷ []
-    else word_items 28 size ++ (Op (AddInst 2 2 28) ∷ [])
+    if nat_lt size 2048 then Op (Addi STACK_POINTER STACK_POINTER (pos size)) ∷ []
+    else word_items 28 size ++ (Op (AddInst STACK_POINTER STACK_POINTER 28) ∷ [])
 
 -- the link is loaded, and the frame is given up
 abbrev pub leave_items : ℕ → List RealItem
-leave_items count = Op (Ld 1 2 (pos 0)) ∷ raise_items (frame_size count)
+leave_items count = Op (Ld LINK STACK_POINTER (pos 0)) ∷ raise_items (frame_size count)
 
 -- what an item becomes, told the mark behind which the stack has no room, and the first register of the procedure and
 -- how many it has
@@ -172,16 +175,16 @@ expand out first count (Store b a offset) =
 expand out first count (CodeOf rd k) = Address (register_for 28 rd) k ∷ save_items first rd
 expand out first count (Mark mark) = RealMark mark ∷ []
 expand out first count (Procedure k first' count') = RealMark k ∷ enter_items out count'
-expand out first count (Jump mark) = RealJump 0 mark ∷ []
+expand out first count (Jump mark) = RealJump ZERO mark ∷ []
 expand out first count (Branch cond a b mark) =
     fetch_items first 28 a ++ (fetch_items first 29 b
     ++ (RealBranch cond (register_for 28 a) (register_for 29 b) mark ∷ []))
-expand out first count (Call k n) = RealJump 1 k ∷ []
-expand out first count (CallAt f n) = fetch_items first 28 f ++ (Op (Jalr 1 (register_for 28 f) (pos 0)) ∷ [])
-expand out first count (TailCall k n) = leave_items count ++ (RealJump 0 k ∷ [])
+expand out first count (Call k n) = RealJump LINK k ∷ []
+expand out first count (CallAt f n) = fetch_items first 28 f ++ (Op (Jalr LINK (register_for 28 f) (pos 0)) ∷ [])
+expand out first count (TailCall k n) = leave_items count ++ (RealJump ZERO k ∷ [])
 expand out first count (TailCallAt f n) =
-    fetch_items first 29 f ++ (leave_items count ++ (Op (Jalr 0 (register_for 29 f) (pos 0)) ∷ []))
-expand out first count Return = leave_items count ++ (Op (Jalr 0 1 (pos 0)) ∷ [])
+    fetch_items first 29 f ++ (leave_items count ++ (Op (Jalr ZERO (register_for 29 f) (pos 0)) ∷ []))
+expand out first count Return = leave_items count ++ (Op (Jalr ZERO LINK (pos 0)) ∷ [])
 expand out first count Environment = Op Ecall ∷ []
 
 -- items one after another; behind the mark of a procedure its own registers count
@@ -193,7 +196,7 @@ expand_all out first count (item ∷ rest) = expand out first count item ++ expa
 
 -- where the stack has no room; each item before has one behind it so
 abbrev pub final_items : ℕ → List RealItem
-final_items out = RealMark out ∷ Op (Addi 17 0 (pos 6)) ∷ Op Ecall ∷ Op Ebreak ∷ []
+final_items out = RealMark out ∷ Op (Addi CALL_NUMBER ZERO (pos STACK_OUT_CALL)) ∷ Op Ecall ∷ Op Ebreak ∷ []
 
 -- told a mark that no item names
 abbrev pub slots_items : ℕ → List VirtualItem → List RealItem

@@ -16,6 +16,7 @@ use Rattle.rv_machine.specs.Real.{Setting as RealSetting, AreAddresses, is_mark,
 use Rattle.rv_machine.specs.Real.{real_machine}
 use Rattle.assembler.specs.Prices.{state_price}
 use Rattle.assembler.specs.Conditions.{registers_named, CanBeAssembled}
+use Rattle.rv_select.specs.declared.convention.TheConstants.{STACK_POINTER, STACK_END, ALLOCATION, REGION_END}
 use Rattle.rv_select.specs.declared.code.VirtualItem.{VirtualItem}
 use Rattle.rv_select.specs.declared.code.VirtualItem.TheVariants.{Procedure}
 use Rattle.rv_select.specs.Run.{Setting, VirtualState, Shown, virtual_machine, virtual_start}
@@ -67,9 +68,9 @@ pub record Starts (items : List VirtualItem) (code : List RealItem) (setting : R
   pub calls : (place : ℕ) (t : State) → setting.ecall place t ≡ call_environment t
   pub tells : (place k first count at : ℕ) → slice_get items place ≡ Some (Procedure k first count)
       → mark_address setting.address code k ≡ Some at → told k ≡ at
-  pub lies : Lies s.layout (s.regs 25)
+  pub lies : Lies s.layout (s.regs STACK_END)
   pub pc : address_from setting.address 0 code ≡ Some s.pc
-  pub stack : s.regs 2 ≡ s.layout.end
+  pub stack : s.regs STACK_POINTER ≡ s.layout.end
   pub fits : (r : ℕ) → s.regs r < 2 ^ 64
   pub bytes : (at : ℕ) → s.memory at < 256
 
@@ -80,12 +81,12 @@ setting_in items told s = record {
   address = told;
   labels = s.layout.labels;
   region = s.layout.region;
-  top = s.regs 25;
+  top = s.regs STACK_END;
 }
 
 -- the bytes of the stack
 abbrev pub room_in : State → ℕ
-room_in s = s.layout.end - s.regs 25
+room_in s = s.layout.end - s.regs STACK_END
 
 abbrev pub start_in : State → VirtualState
 start_in s = virtual_start s.regs s.memory s.world
@@ -97,18 +98,18 @@ start_in s = virtual_start s.regs s.memory s.world
 -- active procedures have
 pub record IsSeenAs (bound : ℕ) (s : State) (shown : Shown) : Type 0 where
   pub memory : (at : ℕ) → at < bound → s.memory at ≡ shown.memory at
-  pub stack : s.regs 25 ≡ shown.stack
-  pub alloc : s.regs 26 ≡ shown.alloc
-  pub top : s.regs 27 ≡ shown.top
-  pub above : bound ≤ s.regs 2
-  pub used : s.layout.end ≤ s.regs 2 + frames_size shown.frames shown.held
+  pub stack : s.regs STACK_END ≡ shown.stack
+  pub alloc : s.regs ALLOCATION ≡ shown.alloc
+  pub top : s.regs REGION_END ≡ shown.top
+  pub above : bound ≤ s.regs STACK_POINTER
+  pub used : s.layout.end ≤ s.regs STACK_POINTER + frames_size shown.frames shown.held
 
 -- from a state on the machine follows a virtual run, and its items, at their prices, cost no more than the items of
 -- that run at theirs
 pub record FollowsVirtual {V : Type 0} (X : Machine State State V) (price : State → ℕ)
     (Y : Machine VirtualState Shown V) (virtual_price : VirtualState → ℕ) (s : State) : Type 0 where
-  pub follows : FollowsBy (IsSeenAs (s.regs 25)) Any (run X s) (run Y (start_in s))
-  pub turns : FollowsBy (OfRest (IsSeenAs (s.regs 25))) (Spends 1) (run (metered price X) (unspent s))
+  pub follows : FollowsBy (IsSeenAs (s.regs STACK_END)) Any (run X s) (run Y (start_in s))
+  pub turns : FollowsBy (OfRest (IsSeenAs (s.regs STACK_END))) (Spends 1) (run (metered price X) (unspent s))
       (run (metered virtual_price Y) (unspent (start_in s)))
 
 -- however stops are read, the machine follows the virtual run in a stack of so many bytes: so it stops for want of
@@ -145,7 +146,7 @@ pub record EntersBeyond {V : Type 0} (items : List VirtualItem) (frames frame : 
   pub there : slice_get items place
       ≡ Some (Procedure number entered.active.found.first entered.active.found.count)
   pub beyond : room < frames entered
-  pub left : x.shown.regs 2 < x.shown.regs 25 + frame entered
+  pub left : x.shown.regs STACK_POINTER < x.shown.regs STACK_END + frame entered
 
 -- the virtual run has printed the same, and ends with the same verdict
 pub record EndsToo {V : Type 0} (verdict : V) (Y : Machine VirtualState Shown V) (start : VirtualState)

@@ -18,21 +18,9 @@ use rv_isa::inst::Inst;
 use rv_isa::number::{Imm12, Reg, Shift6, Upper};
 use rv_machine::real::{RealItem, RealItems};
 use rv_select::code::VReg;
-
-// The register that keeps where a procedure goes back to.
-pub(crate) const LINK: u8 = 1;
-
-// The register that tells where the frame begins.
-const STACK: u8 = 2;
-
-// The number of an environment call stands here.
-const CALL_NUMBER: u8 = 17;
-
-// The stack's low end.
-const STACK_END: u8 = 25;
-
-// The allocation word.
-const ALLOC: i64 = 26;
+use rv_select::convention::{
+    ALLOCATION, CALL_NUMBER, LINK, STACK_END, STACK_OUT_CALL, STACK_POINTER, ZERO,
+};
 
 // The two registers of words that come from slots or go there.
 pub(crate) const FIRST: u8 = 28;
@@ -45,6 +33,13 @@ pub(crate) fn register(number: u8) -> Reg
     ensures { result ≡ number }
 {
     Reg::new(i64::from(number))
+}
+
+// Whether a register is that of the allocation word.
+fn is_allocation(r: Reg) -> bool
+    ensures { result ≡ (r == ALLOCATION) }
+{
+    r.get() == i64::from(ALLOCATION)
 }
 
 // A number from 0 to 2,047.
@@ -127,7 +122,7 @@ fn lower(word: u64) -> Imm12
 fn put_chunks(items: &mut RealItems, rd: Reg, word: u64) -> Result<(), OutOfMemory>
     ensures { OnOk result (items.new ≡ items.old ++ Op (Addi rd 0 (pos (chunk_of word 5))) ∷ chunk_items rd word 5) }
 {
-    put(items, Inst::Addi(rd, register(0), chunk(word, 5)))?;
+    put(items, Inst::Addi(rd, register(ZERO), chunk(word, 5)))?;
     let mut k = 5;
     while k > 0 {
         k -= 1;
@@ -153,7 +148,7 @@ pub(crate) fn put_word(items: &mut RealItems, rd: Reg, word: u64) -> Result<(), 
     ensures { OnOk result (items.new ≡ items.old ++ word_items rd word) }
 {
     if word < 2048 {
-        return put(items, Inst::Addi(rd, register(0), small(word)));
+        return put(items, Inst::Addi(rd, register(ZERO), small(word)));
     }
     put_long(items, rd, word)
 }
@@ -191,10 +186,10 @@ fn put_slot_fetch(items: &mut RealItems, rd: Reg, offset: u64) -> Result<(), Out
     ensures { OnOk result (items.new ≡ items.old ++ slot_fetch rd offset) }
 {
     if offset < 2048 {
-        return put(items, Inst::Ld(rd, register(STACK), small(offset)));
+        return put(items, Inst::Ld(rd, register(STACK_POINTER), small(offset)));
     }
     put_word(items, rd, offset)?;
-    put(items, Inst::Add(rd, rd, register(STACK)))?;
+    put(items, Inst::Add(rd, rd, register(STACK_POINTER)))?;
     put(items, Inst::Ld(rd, rd, small(0)))
 }
 
@@ -203,11 +198,14 @@ fn put_slot_save_of(items: &mut RealItems, word: Reg, offset: u64) -> Result<(),
     ensures { OnOk result (items.new ≡ items.old ++ slot_save_of word offset) }
 {
     if offset < 2048 {
-        return put(items, Inst::Sd(word, register(STACK), small(offset)));
+        return put(
+            items,
+            Inst::Sd(word, register(STACK_POINTER), small(offset)),
+        );
     }
     let place = register(SECOND);
     put_word(items, place, offset)?;
-    put(items, Inst::Add(place, place, register(STACK)))?;
+    put(items, Inst::Add(place, place, register(STACK_POINTER)))?;
     put(items, Inst::Sd(word, place, small(0)))
 }
 
@@ -267,7 +265,7 @@ pub(crate) fn put_constant(
 {
     match rd {
         VReg::Real(r) => {
-            if r.get() == ALLOC {
+            if is_allocation(*r) {
                 put_word(items, register(FIRST), word)?;
                 put(items, Inst::Addi(*r, register(FIRST), small(0)))
             } else {
@@ -281,9 +279,9 @@ pub(crate) fn put_constant(
 // Adds what moves a word from a slot into a real register.
 fn put_from_slot(items: &mut RealItems, r: Reg, offset: u64) -> Result<(), OutOfMemory>
     ensures { OnOk result (items.new ≡ items.old
-        ++ (if r == 26 then slot_fetch 28 offset ++ (Op (Addi r 28 (pos 0)) ∷ []) else slot_fetch r offset)) }
+        ++ (if r == ALLOCATION then slot_fetch 28 offset ++ (Op (Addi r 28 (pos 0)) ∷ []) else slot_fetch r offset)) }
 {
-    if r.get() == ALLOC {
+    if is_allocation(r) {
         put_slot_fetch(items, register(FIRST), offset)?;
         put(items, Inst::Addi(r, register(FIRST), small(0)))
     } else {
@@ -363,7 +361,7 @@ pub(crate) fn put_enter(items: &mut RealItems, out: u32, count: u32) -> Result<(
 {
     let size = register(FIRST);
     let free = register(SECOND);
-    let stack = register(STACK);
+    let stack = register(STACK_POINTER);
     put_word(items, size, frame_size(count))?;
     put(items, Inst::Sub(free, stack, register(STACK_END)))?;
     put_real(items, RealItem::Branch(Cond::Ltu, free, size, out))?;
@@ -376,7 +374,7 @@ fn put_raise(items: &mut RealItems, bytes: u64) -> Result<(), OutOfMemory>
     ensures { OnOk result (items.new ≡ items.old ++ raise_items bytes) }
 {
     let size = register(FIRST);
-    let stack = register(STACK);
+    let stack = register(STACK_POINTER);
     if bytes < 2048 {
         return put(items, Inst::Addi(stack, stack, small(bytes)));
     }
@@ -388,7 +386,10 @@ fn put_raise(items: &mut RealItems, bytes: u64) -> Result<(), OutOfMemory>
 pub(crate) fn put_leave(items: &mut RealItems, count: u32) -> Result<(), OutOfMemory>
     ensures { OnOk result (items.new ≡ items.old ++ leave_items count) }
 {
-    put(items, Inst::Ld(register(LINK), register(STACK), small(0)))?;
+    put(
+        items,
+        Inst::Ld(register(LINK), register(STACK_POINTER), small(0)),
+    )?;
     put_raise(items, frame_size(count))
 }
 
@@ -399,7 +400,7 @@ pub(crate) fn put_final(items: &mut RealItems, out: u32) -> Result<(), OutOfMemo
     put_real(items, RealItem::Mark(out))?;
     put(
         items,
-        Inst::Addi(register(CALL_NUMBER), register(0), small(6)),
+        Inst::Addi(register(CALL_NUMBER), register(ZERO), small(STACK_OUT_CALL)),
     )?;
     put(items, Inst::Ecall)?;
     put(items, Inst::Ebreak)

@@ -9,7 +9,7 @@ ghost use Rattle.rv_slots.specs.Slotted.{above, free_mark, HasFew, EachHasFew, I
 ghost use Rattle.rv_machine.specs.declared.real.RealItem.TheVariants.{Op};
 
 use crate::slot_parts::{
-    FIRST, LINK, SECOND, negated, put, put_constant, put_enter, put_fetch, put_final, put_leave,
+    FIRST, SECOND, negated, put, put_constant, put_enter, put_fetch, put_final, put_leave,
     put_move, put_real, put_save, register, register_for, small,
 };
 use grift_base::lists::OutOfMemory;
@@ -19,6 +19,7 @@ use rv_isa::inst::Inst;
 use rv_isa::number::{Reg, Shift6};
 use rv_machine::real::{RealCode, RealItem, RealItems};
 use rv_select::code::{VReg, VirtualCode, VirtualItem};
+use rv_select::convention::{LINK, ZERO};
 use std::alloc::Global;
 
 // The instruction of an operation.
@@ -199,7 +200,7 @@ fn put_tail_call(items: &mut RealItems, count: u32, k: u32) -> Result<(), OutOfM
     ensures { OnOk result (items.new ≡ items.old ++ expand 0 0 count (VirtualItem.TailCall k 0)) }
 {
     put_leave(items, count)?;
-    put_real(items, RealItem::Jump(register(0), k))
+    put_real(items, RealItem::Jump(register(ZERO), k))
 }
 
 // Adds what its tail call of a code address becomes.
@@ -215,7 +216,7 @@ fn put_tail_call_at(
     put_leave(items, count)?;
     put(
         items,
-        Inst::Jalr(register(0), register_for(SECOND, f), small(0)),
+        Inst::Jalr(register(ZERO), register_for(SECOND, f), small(0)),
     )
 }
 
@@ -224,7 +225,7 @@ fn put_return(items: &mut RealItems, count: u32) -> Result<(), OutOfMemory>
     ensures { OnOk result (items.new ≡ items.old ++ expand 0 0 count VirtualItem.Return) }
 {
     put_leave(items, count)?;
-    put(items, Inst::Jalr(register(0), register(LINK), small(0)))
+    put(items, Inst::Jalr(register(ZERO), register(LINK), small(0)))
 }
 
 // Adds what the mark of a procedure with so many slots becomes, told the mark behind which the stack lacks room.
@@ -260,7 +261,7 @@ fn put_item(
         VirtualItem::CodeOf(rd, k) => put_address(items, first, rd, *k),
         VirtualItem::Mark(mark) => put_real(items, RealItem::Mark(*mark)),
         VirtualItem::Procedure(k, _, count) => put_procedure(items, out, *k, *count),
-        VirtualItem::Jump(mark) => put_real(items, RealItem::Jump(register(0), *mark)),
+        VirtualItem::Jump(mark) => put_real(items, RealItem::Jump(register(ZERO), *mark)),
         VirtualItem::Branch(cond, a, b, mark) => put_branch(items, first, *cond, a, b, *mark),
         VirtualItem::Call(k, _) => put_real(items, RealItem::Jump(register(LINK), *k)),
         VirtualItem::CallAt(f, _) => put_call_at(items, first, f),
