@@ -20,7 +20,7 @@ use Rattle.assembler.specs.Assembled.{item_address, HasAddresses}
 use Rattle.assembler.proofs.Images.{word_sum, statics_field, entry_field, statics_long, code_long}
 use Rattle.assembler.proofs.Finding.{next_address, same_place, some_words}
 use Rattle.assembler.proofs.Starting.{got, reaches_to}
-use Rattle.assembler.proofs.Claims.{CodeFacts, code_at, code_size, words_long, part, in_memory}
+use Rattle.assembler.proofs.Following.{CodeFacts, code_at, code_size, words_long, part, in_memory}
 
 -- an item that isn't a mark stands somewhere
 has_item : (items : List RealItem) (place : ℕ) (d : RealItem) → place < length items →

@@ -5,7 +5,7 @@ use Rattle.rv_machine.specs.declared.real.RealItem.{RealItem}
 use Rattle.rv_machine.specs.Image.{labels_of}
 use Rattle.assembler.specs.Imaging.{assembled}
 use Rattle.assembler.specs.Assembled.{IsImageOf}
-use Rattle.assembler.proofs.Claims.{CodeFacts, does_as_code}
+use Rattle.assembler.proofs.Following.{CodeFacts, does_as_code}
 use Rattle.assembler.proofs.Plain.{runs_as_code}
 use Rattle.assembler.proofs.Holding.{has_its_words}
 use Rattle.assembler.proofs.Addresses.{has_addresses}

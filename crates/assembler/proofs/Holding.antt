@@ -28,8 +28,8 @@ use Rattle.assembler.proofs.Standing.{calls, Stands}
 use Rattle.assembler.proofs.Insts.{item_long_at}
 use Rattle.assembler.proofs.Placing.{bytes_of, bytes_long}
 use Rattle.assembler.proofs.Starting.{got, call_is, call_width, Located, located}
-use Rattle.assembler.proofs.Claims.{CodeFacts, no_sizes, code_at, code_size, words_long, full, full_words, code_byte}
-use Rattle.assembler.proofs.Claims.{tail}
+use Rattle.assembler.proofs.Following.{CodeFacts, no_sizes, code_at, code_size, words_long, full, full_words, code_byte}
+use Rattle.assembler.proofs.Following.{tail}
 
 -- ---- forms call nothing
 

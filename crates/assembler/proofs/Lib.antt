@@ -6,10 +6,11 @@ mod Finding
 mod Scratch
 mod Standing
 mod Counting
-mod Doing
+mod Relation
+mod Moves
 mod Placing
 mod Starting
-mod Claims
+mod Following
 mod Sums
 mod Distances
 mod Places

@@ -29,7 +29,7 @@ use Rattle.assembler.specs.Following.{IsLike, LeavesCode, CanBeCall, Simulates, 
 use Rattle.assembler.proofs.Finding.{Found, found}
 use Rattle.assembler.proofs.Turns.{leaves_act, leaves_call, like_call}
 use Rattle.assembler.proofs.Standing.{Intact, same_word}
-use Rattle.assembler.proofs.Claims.{CodeFacts, Sizes, code_at, full, simulated}
+use Rattle.assembler.proofs.Following.{CodeFacts, Sizes, code_at, full, simulated}
 
 -- ---- two machines that make the same steps where I holds
 

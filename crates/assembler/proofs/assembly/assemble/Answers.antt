@@ -4,7 +4,7 @@ use Rattle.rv_machine.specs.declared.real.RealItem.{RealItem}
 use Rattle.assembler.specs.Conditions.{is_mark}
 use Rattle.assembler.proofs.Insts.{words_few, words_some}
 use Rattle.assembler.specs.Imaging.{code_start, assembled}
-use Rattle.assembler.proofs.Claims.{CodeFacts, code_facts, image_is}
+use Rattle.assembler.proofs.Following.{CodeFacts, code_facts, image_is}
 use Rattle.assembler.proofs.Assembled.{is_image_of}
 use Rattle.assembler.proofs.assembly.assemble.Goals as goal
 use Rattle.assembler.proofs.assembly.assemble.Goals.{After-drop-words-inside-2}

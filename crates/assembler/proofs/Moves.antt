@@ -4,9 +4,8 @@ use Rattle.std.proofs.Common.{[], ◌∷◌, ◌++◌, length, drop, Option, Som
 use Rattle.std.specs.Prelude.{ℤ, pos, negsuc, ◌==◌, ◌&&◌, not, nat_le, if◌then◌else◌, Contains, slice_index_or, All}
 use Rattle.run_laws.specs.Runs.{Ending, Verdict, Exhausted, Wrong}
 use Rattle.run_laws.specs.Machines.{Next as Step, Go, Machine, Reaches, Alike, UnlessWrong}
-use Rattle.run_laws.specs.Meters.{metered, each_one, unspent, OnBudget, DoesOnBudget, CostSimulation}
+use Rattle.run_laws.specs.Meters.{metered, each_one, unspent, OnBudget, CostSimulation}
 use Rattle.run_laws.proofs.Public.{by_step, reaches_weaken}
-use Rattle.grift_base.specs.World.{WorldState}
 use Rattle.rv_isa.specs.declared.inst.Inst.{Inst}
 use Rattle.rv_isa.specs.declared.inst.Inst.TheVariants.{Jal, Jalr, Addi, Lui, Ecall, Ebreak}
 use Rattle.machine_words.specs.declared.conditions.Cond.{Cond}
@@ -21,16 +20,15 @@ use Rattle.machine_words.specs.Halts.{Halt}
 use Rattle.rv_machine.specs.Turn.{act, act_with, put, branch_if, jump_and_link, next_pc}
 use Rattle.machine_words.specs.Arithmetic.{plus, subtract, half}
 use Rattle.rv_machine.specs.Mach.{step_by}
-use Rattle.rv_machine.specs.Real.{Setting, Here, mark_address, item_at, turn_in, machine_in, is_lost, needs_next}
+use Rattle.rv_machine.specs.Real.{Setting, Here, mark_address, item_at, turn_in, is_lost, needs_next}
 use Rattle.rv_machine.specs.Real.{last_step, op_step, jump_step, branch_step, address_step, item_step, step_here}
 use Rattle.machine_words.specs.Conditions.{holds}
-use Rattle.rv_machine.specs.Real.{real_machine}
 use Rattle.rv_machine.proofs.Public.{drop_next, a_condition_is_that_of_its_branch}
 use Rattle.assembler.specs.Layout.{longest_widths, is_near, mark_place, address_of, width}
-use Rattle.assembler.specs.Expansion.{offset, opposite, far_insts, insts_of, target_of, item_insts}
-use Rattle.assembler.specs.Conditions.{registers_named, IsPlaced, is_mark, CanBeAssembled}
+use Rattle.assembler.specs.Expansion.{offset, opposite, far_insts, insts_of, target_of}
+use Rattle.assembler.specs.Conditions.{registers_named, IsPlaced, is_mark}
 use Rattle.assembler.specs.Prices.{real_price, price_here, state_price}
-use Rattle.assembler.specs.Following.{IsLike, ComeToLike, LeavesCode, CanBeCall}
+use Rattle.assembler.specs.Following.{IsLike, ComeToLike, LeavesCode}
 use Rattle.assembler.proofs.Distances.{lies_below}
 use Rattle.assembler.proofs.Finding.{width_at, Found, found, address_next, next_address, mark_lies}
 use Rattle.assembler.proofs.Turns.{first, second, like_reg, like_set, like_act, leaves_act, plain_act}
@@ -38,6 +36,8 @@ use Rattle.assembler.proofs.Scratch.{near_word_is}
 use Rattle.assembler.proofs.Standing.{calls, InCode, Stands, Intact, turn_of_call, turn_of_inst, Within, pc_next}
 use Rattle.assembler.proofs.Standing.{turn_within, puts, far}
 use Rattle.assembler.proofs.Counting.{counted}
+use Rattle.assembler.proofs.Relation.{setting as setting_of, M as code_machine, N as image_machine, alike_of as are_alike}
+use Rattle.assembler.proofs.Relation.{Prepared as IsPrepared, Related as AreRelated, Sim as DoesWithin}
 
 -- ---- what the conditions say of the item at a place
 
@@ -100,40 +100,25 @@ module _ {V : Type 0} (reading : Halt → Ending V) (l : Layout) (m0 : Memory) (
   address = address_of items l.code
 
   abbrev setting : Setting
-  setting = record { address = address; ecall = ecall; ebreak = ebreak }
+  setting = setting_of reading l m0 items ecall ebreak
 
   abbrev M : Machine State State V
-  M = real_machine reading items setting
+  M = code_machine reading l m0 items ecall ebreak
 
   abbrev N : Machine State State V
-  N = machine_in reading items setting
+  N = image_machine reading l m0 items ecall ebreak
 
-  -- the code stands in m0
-  pub record Prepared : Type 0 where
-    pub small : l.region < 2 ^ 62
-    pub whole : l.code % 4 ≡ 0
-    pub inside : (place : ℕ) → address place ≤ l.region
-    pub words : (place : ℕ) (item : RealItem) (rest : List RealItem) → drop place items ≡ item ∷ rest
-        → calls item ≡ false → Stands l m0 (address place) (item_insts items l.code place item)
-    pub call : (place : ℕ) (item : RealItem) (rest : List RealItem) → drop place items ≡ item ∷ rest
-        → calls item ≡ true → InCode l m0 (address place)
-    pub can_ecall : (place : ℕ) → CanBeCall (ecall place)
-    pub can_ebreak : (place : ℕ) → CanBeCall (ebreak place)
-    pub can : CanBeAssembled items
+  abbrev Prepared : Type 0
+  Prepared = IsPrepared reading l m0 items ecall ebreak
 
-  -- both have come to the same item
-  pub record Related (s t : State) : Type 0 where
-    pub like : IsLike t s
-    pub pc : t.pc ≡ s.pc
-    pub layout : t.layout ≡ l
-    pub intact : Intact l m0 t.memory
+  abbrev Related : State → State → Type 0
+  Related = AreRelated reading l m0 items ecall ebreak
 
-  -- within so many turns
   abbrev Sim : ℕ → State → State → Step State V → Type 0
-  Sim most s t x = DoesOnBudget IsLike M N each_one Related (λ u. 0) most s t x
+  Sim = DoesWithin reading l m0 items ecall ebreak
 
-  pub alike_of : (s t : State) → IsLike t s → Alike IsLike M N s t
-  alike_of s t k = record { output = ap (λ (w : WorldState). w.output) k.world; shown = k }
+  abbrev alike_of : (s t : State) → IsLike t s → Alike IsLike M N s t
+  alike_of = are_alike reading l m0 items ecall ebreak
 
   -- some turns, of which the last leads to where the item leads
   goes : (most k : ℕ) (s s1 t : State) → 0 < k → k ≤ most → Reaches N (λ u. IsLike u s) (Related s1) k t

@@ -33,7 +33,8 @@ use Rattle.assembler.proofs.Finding.{address_next}
 use Rattle.assembler.proofs.Standing.{Stands}
 use Rattle.assembler.proofs.Placing.{bytes_of, HasWords}
 use Rattle.assembler.proofs.Starting.{outside_calls, reaches_to, item_words, item_stands, call_width}
-use Rattle.assembler.proofs.Doing.{Prepared, Related, simulates}
+use Rattle.assembler.proofs.Relation.{Prepared, Related}
+use Rattle.assembler.proofs.Moves.{simulates}
 
 -- ---- from runs that are counted to runs that are not
 
