@@ -36,7 +36,8 @@ use Rattle.assembler.proofs.Scratch.{near_word_is}
 use Rattle.assembler.proofs.Standing.{calls, InCode, Stands, Intact, turn_of_call, turn_of_inst, Within, pc_next}
 use Rattle.assembler.proofs.Standing.{turn_within, puts, far}
 use Rattle.assembler.proofs.Counting.{counted}
-use Rattle.assembler.proofs.Relation.{setting as setting_of, M as code_machine, N as image_machine, alike_of as are_alike}
+use Rattle.assembler.proofs.Relation.{setting as setting_of, M as code_machine, N as image_machine}
+use Rattle.assembler.proofs.Relation.{alike_of as are_alike}
 use Rattle.assembler.proofs.Relation.{Prepared as IsPrepared, Related as AreRelated, Sim as DoesWithin}
 
 -- ---- what the conditions say of the item at a place

@@ -127,7 +127,8 @@ split_last types (x ∷ xs) a all =
     (rows_then types x xs (head_row types x (xs ++ a ∷ []) all) rest.0, rest.1)
 
 -- types that are consistent one by one are so in a larger table
-related_later : (types new : TypeRows) (xs ys : List ℕ) → IsFormedTable types → HasMoreRows types new → AreRows types xs → AreRows types ys → related (consistent types) xs ys ≡ true →
+related_later : (types new : TypeRows) (xs ys : List ℕ) → IsFormedTable types → HasMoreRows types new →
+    AreRows types xs → AreRows types ys → related (consistent types) xs ys ≡ true →
     related (consistent new) xs ys ≡ true
 related_later types new [] [] table more ones others e = refl
 related_later types new [] (y ∷ ys) table more ones others e = cc

@@ -26,8 +26,8 @@ HaveWidths types = (type : ℕ) (row : TypeRow) → row_at types type ≡ Some r
 abbrev pub AreLow : TypeRows → Type 0
 AreLow types = (type : ℕ) → type < length types → height types type ≤ MOST_HEIGHT
 
--- a table of types: no row stands in it twice, its types are trees, and rows aren't too wide or high; its rows may stand
--- in any order
+-- a table of types: no row stands in it twice, its types are trees, and rows aren't too wide or high; they may stand in
+-- any order
 pub record IsOrderedTable (types : TypeRows) : Type 0 where
   pub distinct : HasNoRepeats types
   pub finite : AreFinite types
