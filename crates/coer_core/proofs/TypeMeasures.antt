@@ -39,7 +39,7 @@ as_great number (suc n) k lt = by (last k n lt) (λ less. as_great number n k le
 
 module _ (types : TypeRows) (table : IsOrderedTable types) where
   abbrev heights : AreHeights (rows_of types) (height types)
-  heights = heights_of_a_table types table.parts_first table.widths
+  heights = heights_of_a_table types table.finite table.widths
 
   -- a type that isn't in the table counts as Dyn
   type_low : (type : ℕ) → height types type ≤ greatest (height types) (length types)

@@ -91,7 +91,7 @@ no_slots (VectRow content) e = absurd (cc e)
 
 module _ (types : TypeRows) (table : IsOrderedTable types) where
   abbrev heights : AreHeights (rows_of types) (height types)
-  heights = heights_of_a_table types table.parts_first table.widths
+  heights = heights_of_a_table types table.finite table.widths
 
   pub row_width : (type : ℕ) (row : TypeRow) → row_at types type ≡ Some row → HasWidth row
   row_width = table.widths
@@ -110,7 +110,7 @@ module _ (types : TypeRows) (table : IsOrderedTable types) where
       let e = row_is types type at.0 at.1 in
       of_slots (λ part. part < length types) (rows_of types type) j below
       (subst (λ row. All (λ part. part < length types) (parts_of row)) (sym e)
-      (parts_within types type at.0 table.parts_first at.1))
+      (parts_within types type at.0 table.finite at.1))
 
   -- and lower
   pub slot_low : (type j : ℕ) → j < slots (rows_of types) type

@@ -30,7 +30,7 @@ use Rattle.coercion_norm.proofs.TypePlacing.{below_or_last}
 
 -- behind the types stands no coercion yet
 pub no_coercions_placed : (types : TypeRows) (nodes : List Node) (start : ℕ) (words type_at coercion_at : List ℕ)
-    → ArePlacedTypes types start words type_at (length types) → coercion_at ≡ []
+    → ArePlacedTypes types start words type_at → coercion_at ≡ []
     → ArePlaced types nodes start words type_at coercion_at 0
 no_coercions_placed types nodes start words type_at coercion_at placed e = record {
   as_many_types = placed.as_many;

@@ -31,7 +31,7 @@ below_composed rows (suc depth) n c d hc hd = compose_height rows depth n c d hc
 
 module _ (types : TypeRows) (table : IsOrderedTable types) where
   abbrev heights : AreHeights (rows_of types) (height types)
-  heights = heights_of_a_table types table.parts_first table.widths
+  heights = heights_of_a_table types table.finite table.widths
 
   bound : (c : Coercion) (n : ℕ) → coercion_height (height types) c ≤ n → NoHigher (rows_of types) c n
   bound c n low = bound_from_height (rows_of types) (height types) heights c n low

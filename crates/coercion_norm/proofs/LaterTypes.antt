@@ -4,7 +4,7 @@ use Rattle.std.proofs.Common.{List, [], ◌∷◌, length, slice_get, unwrap_or,
 use Rattle.std.proofs.lemmas.List.Elements.{All-head, All-tail, All-weaker}
 use Rattle.std.proofs.lemmas.Option.{unwrap_or-slice_get}
 use Rattle.grift_base.specs.Types.{TypeRows, DynRow, is_dyn}
-use Rattle.type_graph.specs.Trees.{PartsFirst, height}
+use Rattle.type_graph.specs.Trees.{AreFinite, height}
 use Rattle.type_graph.specs.TypeTables.{HasMoreRows, IsOrderedTable}
 use Rattle.type_graph.specs.declared.tables.TheConstants.{MOST_HEIGHT}
 use Rattle.type_graph.proofs.Public.{slice_get_at, more_length, row_same, height_grown}
@@ -67,7 +67,7 @@ module _ (n : ℕ) (nodes : List Node) (before : PartsBefore nodes)
         (All-weaker (λ part. part < place) (λ part. NamesBelow n (tree_of nodes part))
         (λ part lower. names_to bound part (omega arith) (omega arith)) (node_parts at.0) (before place at.0 at.1)))
 
-module _ (types new : TypeRows) (first : PartsFirst types) (more : HasMoreRows types new) where
+module _ (types new : TypeRows) (finite : AreFinite types) (more : HasMoreRows types new) where
   row_kept : (type : ℕ) → type < length types → rows_of new type ≡ rows_of types type
   row_kept type within =
       sym (unwrap_or-slice_get new type DynRow) ∙ ap (λ row. unwrap_or row DynRow) (row_same types new type more within)
@@ -95,9 +95,9 @@ module _ (types new : TypeRows) (first : PartsFirst types) (more : HasMoreRows t
     height_kept (Fail label) names = refl
     height_kept (Middle kind parts) names = ap suc (highest_kept parts names)
     height_kept (Inject g kept) names =
-        ap₂ max (height_kept g names.0) (height_grown types new first more kept names.1)
+        ap₂ max (height_kept g names.0) (height_grown types new finite more kept names.1)
     height_kept (Project wanted label i) names =
-        ap₂ max (height_grown types new first more wanted names.0) (height_kept i names.1)
+        ap₂ max (height_grown types new finite more wanted names.0) (height_kept i names.1)
 
     highest_kept : (cs : Coercions) → AllNameBelow (length types) cs
         → highest (height new) cs ≡ highest (height types) cs
@@ -113,15 +113,15 @@ FitsTypes-later types new table ordered more nodes fits = record {
       (λ type below. let longer = more_length types new more in omega (arith, longer, below)) (node_types node)
       (fits.types_there place node e);
   sound = λ place within. record {
-    normal = normal_kept types new ordered.parts_first more (tree_of table.nodes place) (names place within)
+    normal = normal_kept types new ordered.finite more (tree_of table.nodes place) (names place within)
         (fits.sound place within).normal;
     low = subst (λ h. h ≤ MOST_HEIGHT)
-        (sym (height_kept types new ordered.parts_first more (tree_of table.nodes place) (names place within)))
+        (sym (height_kept types new ordered.finite more (tree_of table.nodes place) (names place within)))
         (fits.sound place within).low;
   };
   heights_are = λ place high within e.
       fits.heights_are place high within e
-      ∙ sym (height_kept types new ordered.parts_first more (tree_of table.nodes place) (names place within));
+      ∙ sym (height_kept types new ordered.finite more (tree_of table.nodes place) (names place within));
 }
   where
     names : (place : ℕ) → place < length table.nodes → NamesBelow (length types) (tree_of table.nodes place)

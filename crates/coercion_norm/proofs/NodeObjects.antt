@@ -27,7 +27,7 @@ use Rattle.coercion_norm.proofs.TypePlacing.{below_or_last}
 
 -- behind the types stands no coercion yet
 pub no_coercions_said : (types : TypeRows) (nodes : List Node) (start : ℕ) (words type_at coercion_at : List ℕ)
-    → SayTypes types start words type_at (length types) → coercion_at ≡ []
+    → SayTypes types start words type_at → coercion_at ≡ []
     → SayCoercions types nodes start words type_at coercion_at 0
 no_coercions_said types nodes start words type_at coercion_at said e = record {
   as_many = ap (λ xs. length xs) e;

@@ -41,7 +41,7 @@ cast_there many (first ∷ casts) (suc place) cast all e =
     cast_there many casts place cast (All-tail (λ (other : CastRow). other.coercion.0 < many) first casts all) e
 
 pub are_statics : (types : TypeRows) (table : IsOrderedTable types) (nodes : List Node) (casts : List CastRow)
-    (start : ℕ) (statics : Statics) (first : List ℕ) → SayTypes types start first statics.type_at (length types)
+    (start : ℕ) (statics : Statics) (first : List ℕ) → SayTypes types start first statics.type_at
     → ArePlaced types nodes start statics.words statics.type_at statics.coercion_at (length nodes)
     → SayCoercions types nodes start statics.words statics.type_at statics.coercion_at (length nodes)
     → All (λ (cast : CastRow). cast.coercion.0 < length nodes) casts

@@ -5,7 +5,7 @@ use Rattle.std.proofs.lemmas.List.Elements.{All-head, All-tail}
 use Rattle.std.proofs.lemmas.Option.{get_or_from_slice_get, slice_get_within, unwrap_or-slice_get}
 use Rattle.grift_base.specs.Types.{TypeRow, TypeRows, IntRow, BoolRow, UnitRow, DynRow, FunRow, TupleRow, RefRow}
 use Rattle.grift_base.specs.Types.{VectRow, row_at, parts_of}
-use Rattle.type_graph.specs.Trees.{PartsFirst, row_parts, above_all, height_to, height}
+use Rattle.type_graph.specs.Trees.{AreFinite, row_parts, above_all, height_to, height}
 use Rattle.type_graph.specs.TypeTables.{HasWidth, HaveWidths}
 use Rattle.type_graph.proofs.Public.{height_by_parts}
 use Rattle.coercion_norm.specs.Coercions.{kind_of, rows_of}
@@ -59,7 +59,7 @@ height_of_missing zero types type missing = refl
 height_of_missing (suc depth) types type missing =
     ap (λ row. above_all (λ part. height_to depth types part) (row_parts row)) missing
 
-module _ (types : TypeRows) (first : PartsFirst types) (wide : HaveWidths types) where
+module _ (types : TypeRows) (finite : AreFinite types) (wide : HaveWidths types) where
   -- a type's height by its row, which is Dyn where there is none; and that row is no empty tuple
   by_row : (type : ℕ)
       → (height types type ≡ above_all (height types) (parts_of (rows_of types type))) × HasWidth (rows_of types type)
@@ -75,7 +75,7 @@ module _ (types : TypeRows) (first : PartsFirst types) (wide : HaveWidths types)
             subst HasWidth (sym e) tt,
           )
       go (Some row) found = let e : rows_of types type ≡ row = get_or_from_slice_get types type row DynRow found in (
-        height_by_parts types first type (slice_get_within types type row found)
+        height_by_parts types finite type (slice_get_within types type row found)
             ∙ ap (λ row. above_all (height types) (row_parts row)) found
             ∙ sym (ap (λ row. above_all (height types) (parts_of row)) e),
         subst HasWidth (sym e) (wide type row found),

@@ -10,7 +10,7 @@ ghost use Rattle.coercion_norm.specs.Coercions.{is_id};
 ghost use Rattle.coercion_norm.specs.CoercionTables.{FitsTypes};
 ghost use Rattle.coercion_norm.specs.Heights.{coercion_height};
 ghost use Rattle.coercion_norm.specs.Nodes.{Node, coercion_places, node_of, node_parts, tree_of};
-ghost use Rattle.coercion_norm.specs.Placed.{ArePlaced, ArePlacedTypes, SayCoercions, SayTypes};
+ghost use Rattle.coercion_norm.specs.Placed.{ArePlaced, ArePlacedTypes, AreTypeAddresses, SayCoercions, SayTypes};
 ghost use Rattle.coercion_norm.specs.Statics.{AreStatics};
 ghost use Rattle.coercion_norm.specs.StaticObjects.{header, node_object, type_kind, type_object, words_at};
 
@@ -54,7 +54,8 @@ pub fn place_rows(
     })
 }
 
-// Places the objects of all types; answers the address of each.
+// Places the objects of all types; answers the address of each. A type's parts may stand behind it, so the addresses of
+// all types are found before the first object is made.
 fn place_types(
     alloc: Global,
     words: &mut WordList,
@@ -63,17 +64,42 @@ fn place_types(
 ) -> Result<WordList, OutOfMemory>
     requires empty { words.old ≡ [] }
     requires low { start < 2 ^ 32 }
-    ensures placed { IfOk result (λ type_at. ArePlacedTypes types.now start words.new type_at (length types.now)) }
-    ensures said { IfOk result (λ type_at. SayTypes types.now start words.new type_at (length types.now)) }
+    ensures placed { IfOk result (λ type_at. ArePlacedTypes types.now start words.new type_at) }
+    ensures said { IfOk result (λ type_at. SayTypes types.now start words.new type_at) }
 {
-    let mut type_at = WordList::new(alloc);
+    let type_at = addresses_of_types(alloc, types, start)?;
     for t in 0..types.len() {
-        let at = start + 8 * words.len();
         let object = object_of_type(alloc, types, type_at.as_slice(), TypeId(t))?;
         words.extend(object.as_slice())?;
-        type_at.push(at)?;
     }
     Ok(type_at)
+}
+
+// The address of each type: its object begins behind those of the types before it.
+fn addresses_of_types(alloc: Global, types: &TypeTable, start: u64) -> Result<WordList, OutOfMemory>
+    requires { start < 2 ^ 32 }
+    ensures { IfOk result (AreTypeAddresses types.now start (length types.now)) }
+{
+    let mut type_at = WordList::new(alloc);
+    let mut before = 0;
+    for t in 0..types.len() {
+        type_at.push(start + 8 * before)?;
+        before += 1 + number_of_parts(types.row(TypeId(t)));
+    }
+    Ok(type_at)
+}
+
+// How many parts a type has.
+fn number_of_parts(row: &Row) -> u64
+    requires { length (parts_of (row_of row.now)) ≤ 8 }
+    ensures { result ≡ length (parts_of (row_of row.now)) }
+{
+    match row {
+        Row::Int | Row::Bool | Row::Unit | Row::Dyn => 0,
+        Row::Fun(parameters, _) => parameters.len() + 1,
+        Row::Tuple(parts) => parts.len(),
+        Row::Ref(_) | Row::Vect(_) => 1,
+    }
 }
 
 // Places the objects of all coercions behind those of the types; answers the word of each.
@@ -87,8 +113,8 @@ fn place_coercions(
 ) -> Result<WordList, OutOfMemory>
     requires low { start < 2 ^ 32 }
     requires fits { FitsTypes types.now table.now }
-    requires types { ArePlacedTypes types.now start words.old type_at.now (length types.now) }
-    requires said { SayTypes types.now start words.old type_at.now (length types.now) }
+    requires types { ArePlacedTypes types.now start words.old type_at.now }
+    requires said { SayTypes types.now start words.old type_at.now }
     ensures placed { IfOk result (λ coercion_at. ArePlaced types.now table.now.nodes start words.new type_at.now
         coercion_at (length table.now.nodes)) }
     ensures said { IfOk result (λ coercion_at. SayCoercions types.now table.now.nodes start words.new type_at.now
@@ -120,7 +146,7 @@ fn word_of(table: &CoercionTable, c: CoercionId, at: u64) -> u64
     if table.is_id(c) { 0 } else { at }
 }
 
-// The object of a type, where the addresses of the types before it are told.
+// The object of a type, where the addresses of all types are told.
 fn object_of_type(
     alloc: Global,
     types: &TypeTable,
@@ -128,7 +154,7 @@ fn object_of_type(
     t: TypeId,
 ) -> Result<WordList, OutOfMemory>
     requires there { t.0 < length types.now }
-    requires told { length type_at.now ≡ t.0 }
+    requires told { length type_at.now ≡ length types.now }
     ensures { IfOk result (λ object. object ≡ type_object types.now type_at.now t.0) }
 {
     types.len();

@@ -7,14 +7,14 @@ use Rattle.coercion_norm.proofs.HeightNumbers.{compose_no_higher}
 
 pub returns : goal.returns
 returns c = record {
-  types = λ types table. heights_of_a_table types table.parts_first table.widths;
+  types = λ types table. heights_of_a_table types table.finite table.widths;
   coercions = λ types table x n.
-      let heights = heights_of_a_table types table.parts_first table.widths in (
+      let heights = heights_of_a_table types table.finite table.widths in (
         height_from_bound (rows_of types) (height types) heights x n,
         bound_from_height (rows_of types) (height types) heights x n,
       );
   casts = λ types table.
-      coerce_no_higher (rows_of types) (height types) (heights_of_a_table types table.parts_first table.widths);
+      coerce_no_higher (rows_of types) (height types) (heights_of_a_table types table.finite table.widths);
   compositions = λ types table.
-      compose_no_higher (rows_of types) (height types) (heights_of_a_table types table.parts_first table.widths);
+      compose_no_higher (rows_of types) (height types) (heights_of_a_table types table.finite table.widths);
 }
