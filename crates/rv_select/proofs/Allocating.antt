@@ -92,7 +92,7 @@ module _ {V : Type 0} (program : Program V) where
             (way_first program s s1 u body) (
             does_item program.reading (setting program) (Way program s s1) (At program s1) 0 (owed s.waiting) t2 t3
             (Compute Add (Real ALLOCATION) (Real ALLOCATION) (Real FIRST_SCRATCH)) here.stands.1.0 refl
-              (way_first program s s1 t2 body) (
+            (way_first program s s1 t2 body) (
               record {
                 active = active_same program s t on rest t3.pc (record {
                   stands = here.stands.1.1;
@@ -139,7 +139,7 @@ module _ {V : Type 0} (program : Program V) where
         does_item program.reading (setting program) P Q 1 3 t51 t52 (Constant (Real SECOND_ARGUMENT) 0) here.1.1.0 refl
         (way_second program s s1 t51 body) (
         does_item program.reading (setting program) P Q 0 1 t52 t6 (Constant (Real CALL_NUMBER) REGION_OUT_CALL)
-          here.1.1.1.0 refl
+        here.1.1.1.0 refl
         (way_second program s s1 t52 body) (
           (
             way_second program s s1 t6 body,
@@ -182,9 +182,9 @@ module _ {V : Type 0} (program : Program V) where
 
       tail : List VirtualItem
       tail = Compute Sub (Real FIRST_SCRATCH) (Real REGION_END) (Real ALLOCATION)
-        ∷ ComputeWith Srl (Real FIRST_SCRATCH) (Real FIRST_SCRATCH) 3
+          ∷ ComputeWith Srl (Real FIRST_SCRATCH) (Real FIRST_SCRATCH) 3
           ∷ Branch Ltu (Real FIRST_SCRATCH) (source_reg first THIRD_SCRATCH a) on.active.out
-            ∷ Move (Virtual (first + d)) (Real ALLOCATION)
+          ∷ Move (Virtual (first + d)) (Real ALLOCATION)
           ∷ items_of program s t on rest
 
       here : ItemsOn program s t on pc tail
@@ -225,7 +225,7 @@ module _ {V : Type 0} (program : Program V) where
           (kept_fixed kept refl refl refl) in
           let v1 : value (u1 regs known) (source_reg first THIRD_SCRATCH a) ≡ Some n =
           wrote_kept (u0 regs known) FIRST_SCRATCH (free regs) (source_reg first THIRD_SCRATCH a) n
-            (source_apart first THIRD_SCRATCH FIRST_SCRATCH a refl refl)
+          (source_apart first THIRD_SCRATCH FIRST_SCRATCH a refl refl)
           va in
           does_item program.reading (setting program) (Way program s s1) Q (suc k)
           (1 + left) (u0 regs known) (u1 regs known)
@@ -238,7 +238,7 @@ module _ {V : Type 0} (program : Program V) where
           (source_reg first THIRD_SCRATCH a) n (source_apart first THIRD_SCRATCH FIRST_SCRATCH a refl refl) v1))))
 
       branched : (regs : Registers) (known : ℕ → Bool) (n : ℕ)
-        → value (u3 regs known) (source_reg first THIRD_SCRATCH a) ≡ Some n
+          → value (u3 regs known) (source_reg first THIRD_SCRATCH a) ≡ Some n
           → (b : Bool) → nat_lt (free regs / 8) n ≡ b
           → item_step program.reading (setting program) test (u3 regs known)
           ≡ branch program.reading (setting program) b on.active.out (u3 regs known)
@@ -349,12 +349,12 @@ module _ {V : Type 0} (program : Program V) where
         → ((i : ℕ) → u.active.locals (u.active.found.first + i) ≡ s.active.locals i) → offset % 8 ≡ 0
         → s.alloc + offset + 8 * length ws ≤ program.low.top → SeenAs program s u
         → Here program u.pc (stores_items u.active.found.first offset args ++ rest)
-          → value u (Real SECOND_SCRATCH) ≡ Some z
+        → value u (Real SECOND_SCRATCH) ≡ Some z
         → ((regs : Registers) (known : ℕ → Bool) (pc : ℕ) → SameFixed regs u.regs
         → pc ≡ beyond (stores_items u.active.found.first offset args) u.pc
         → SeenAs program s (record u { regs = regs; known = known; pc = pc; memory = store_words ws at u.memory })
         → value (record u { regs = regs; known = known; pc = pc; memory = store_words ws at u.memory })
-          (Real SECOND_SCRATCH)
+        (Real SECOND_SCRATCH)
         ≡ Some z → PaidWay program.reading (setting program) (Way program s s1) Q k left (record u {
           regs = regs;
           known = known;
@@ -376,7 +376,7 @@ module _ {V : Type 0} (program : Program V) where
         subst (Here program u.pc) (append_assoc (source_items FIRST_SCRATCH a) (item ∷ later) rest) stands in
         let here : Here program p (item ∷ (later ++ rest)) =
         stands_past program.reading (setting program) (source_items FIRST_SCRATCH a) (item
-          ∷ (later ++ rest)) u.pc split in
+        ∷ (later ++ rest)) u.pc split in
         let after : ℕ = prices (setting program) u.active.found later left in
         subst (λ n. PaidWay program.reading (setting program) (Way program s s1) Q (fetches a
         (suc (stores_more args k))) n u)
@@ -400,7 +400,7 @@ module _ {V : Type 0} (program : Program V) where
         let place : (regs ALLOCATION + offset) % 2 ^ 64 ≡ at = ap (λ x. (x + offset) % 2 ^ 64) sn1.1
         ∙ (at_word s.alloc offset (length ws) program.low.top room program.small ∙ sym ate) in
         let v61 : value u1 (Real SECOND_SCRATCH) ≡ Some z = kept_value u FIRST_SCRATCH regs known p kept
-          (Real SECOND_SCRATCH) z refl v6 in
+        (Real SECOND_SCRATCH) z refl v6 in
         let sn2 : SeenAs program s u2 = (
           λ i h. stored_outside 8 u.memory at w i (inl (omega (arith, ate, h))) ∙ sn.0 i h,
           sn1.1,
@@ -485,7 +485,7 @@ module _ {V : Type 0} (program : Program V) where
 
       tail : List VirtualItem
       tail = Move (Virtual (first + d)) (Real ALLOCATION)
-        ∷ Compute Add (Real ALLOCATION) (Real ALLOCATION) (Real SECOND_SCRATCH)
+          ∷ Compute Add (Real ALLOCATION) (Real ALLOCATION) (Real SECOND_SCRATCH)
           ∷ items_of program s t on rest
 
       after : ItemsOn program s t on (suc (suc (suc t.pc))) (stores_items first 0 args ++ tail)
@@ -507,7 +507,7 @@ module _ {V : Type 0} (program : Program V) where
           does_item program.reading (setting program) (Way program s s1) Q (suc k)
           (item_price (setting program) f size_item + left) t t1
           (Compute Sub (Real FIRST_SCRATCH) (Real REGION_END) (Real ALLOCATION)) lies.stands.0 refl
-            (way_first program s s1 t on.body) (
+          (way_first program s s1 t on.body) (
           does_item program.reading (setting program) (Way program s s1) Q k left t1 t2 size_item lies.stands.1.0 refl
           (way_first program s s1 t1 on.body) r)
 
@@ -577,12 +577,12 @@ module _ {V : Type 0} (program : Program V) where
                 does_item program.reading (setting program) (Way program s s1) (At program s1) 1
                 (1 + owed s.waiting) u u1 put here.stands.0
                 (move_local program.reading (setting program) u (first + d) (Real ALLOCATION) s.alloc
-                  (ap Some (same.alloc
+                (ap Some (same.alloc
                 ∙ on.body.1))
                 (mine program s t on d m)) (way_seen program s s1 u sn) (
                 does_item program.reading (setting program) (Way program s s1) (At program s1) 0 (owed s.waiting) u1 u2
                 (Compute Add (Real ALLOCATION) (Real ALLOCATION) (Real SECOND_SCRATCH)) here.stands.1.0
-                  (given_is u1 _ bytes _ v6)
+                (given_is u1 _ bytes _ v6)
                 (way_seen program s s1 u1 sn) (
                   record {
                     active = active_set program s t on rest d s.alloc u2.pc (record {

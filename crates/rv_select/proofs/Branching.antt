@@ -65,7 +65,7 @@ module _ {V : Type 0} (program : Program V) where
 
       here : ItemsOn program s t on pc (item ∷ (other_code ++ tail))
       here = past program f on.active.out p1 (source_items SECOND_SCRATCH b) (item
-        ∷ (other_code ++ tail)) s.active.rests
+          ∷ (other_code ++ tail)) s.active.rests
           (past program f on.active.out t.pc (source_items FIRST_SCRATCH a) (source_items SECOND_SCRATCH b
           ++ (item ∷ (other_code ++ tail))) s.active.rests lies)
 
@@ -129,7 +129,7 @@ module _ {V : Type 0} (program : Program V) where
             fetches a (fetches b 1),
             inl (some_steps program a b),
             prices (setting program) f (source_items FIRST_SCRATCH a)
-              (prices (setting program) f (source_items SECOND_SCRATCH b)
+                (prices (setting program) f (source_items SECOND_SCRATCH b)
                 (item_price (setting program) f item + owed s.waiting)),
             (let p = both_paid program s t a b (item_price (setting program) f item + owed s.waiting) in omega
                 (arith, p)),
@@ -164,7 +164,7 @@ module _ {V : Type 0} (program : Program V) where
             inl (let i = fetches_ge b 2 in let j = fetches_ge a (fetches b 2) in
                 omega (arith, i, j)),
             prices (setting program) f (source_items FIRST_SCRATCH a)
-              (prices (setting program) f (source_items SECOND_SCRATCH b)
+                (prices (setting program) f (source_items SECOND_SCRATCH b)
                 (item_price (setting program) f item + (0 + owed s.waiting))),
             (let p = both_paid program s t a b (item_price (setting program) f item + (0 + owed s.waiting)) in omega
                 (arith, p)),

@@ -59,9 +59,9 @@ module _ {V : Type 0} (program : Program V) where
       → only_args m known (FIRST_ARGUMENT + i) ≡ true
   handed_known known i m h k =
       let inside : (nat_le FIRST_ARGUMENT (FIRST_ARGUMENT + i)
-        && nat_lt (FIRST_ARGUMENT + i) (FIRST_ARGUMENT + m)) ≡ true = grind arith in
+      && nat_lt (FIRST_ARGUMENT + i) (FIRST_ARGUMENT + m)) ≡ true = grind arith in
       ap (λ c. c && (nat_le FIRST_ARGUMENT (FIRST_ARGUMENT + i) && nat_lt (FIRST_ARGUMENT + i) (FIRST_ARGUMENT + m))) h
-        ∙ inside
+      ∙ inside
 
   -- where a procedure is entered, its words take the place of those of the one that handed the words on
   held_entered : (frames : List Frame) (from found : Found) (count words rest more : ℕ)
@@ -181,7 +181,7 @@ module _ {V : Type 0} (program : Program V) where
       → SameFixed regs t.regs → Entered program p f → words_of s.active.locals args ≡ Some ws
       → ItemsOn program s t on pc (args_items t.active.found.first 0 args
       ++ (item ∷ Move (Virtual (t.active.found.first + d)) (Real ANSWER) ∷ items_of program s t on rest))
-        → (let place : ℕ =
+      → (let place : ℕ =
       beyond (args_items t.active.found.first 0 args) pc in
       item_step program.reading (setting program) item (record t {
         regs = args_regs 0 ws regs;
@@ -319,13 +319,13 @@ module _ {V : Type 0} (program : Program V) where
       kept_value t FIRST_ARGUMENT t.regs t.known pc (record { same = λ q h. refl; still = λ q h. h }) v w (n 0) e
   args_kept (x ∷ ws) from t pc v w n e =
       args_kept ws (suc from) (wrote_real (FIRST_ARGUMENT + from) x t) pc v w n
-        (wrote_kept t (FIRST_ARGUMENT + from) x v w (n from) e)
+      (wrote_kept t (FIRST_ARGUMENT + from) x v w (n from) e)
 
   pub no_arg : (first : ℕ) (a : LowSource) (q : ℕ) → NotIn (FIRST_ARGUMENT + q) (source_reg first THIRD_SCRATCH a)
   no_arg first a q =
       let seven : (THIRD_SCRATCH == FIRST_ARGUMENT + q) ≡ false = grind arith in
       let none : (ZERO == FIRST_ARGUMENT + q) ≡ false = grind arith in source_apart first THIRD_SCRATCH
-        (FIRST_ARGUMENT + q) a seven none
+      (FIRST_ARGUMENT + q) a seven none
 
   pub do_call_at : Laid program → (s : LowState) (t : VirtualState) (on : On program s t)
       (d : ℕ) (a : LowSource) (args : List LowSource)

@@ -120,9 +120,13 @@ module _ (first out : ℕ) where
   )
   code_fits (Request d a rest) m h = with_source THIRD_SCRATCH a _ (refl, (refl, (refl, (refl, code_fits rest m h))))
   code_fits (Take a rest) m h = with_source THIRD_SCRATCH a _ (refl, (refl, code_fits rest m h))
-  code_fits (LowEnvironment number a b d e rest) m h =
-      (put_fits first (Real FIRST_ARGUMENT) a, (put_fits first (Real SECOND_ARGUMENT) b,
-        (refl, (refl, (refl, (refl, code_fits rest m h))))))
+  code_fits (LowEnvironment number a b d e rest) m h = (
+    put_fits first (Real FIRST_ARGUMENT) a,
+    (
+      put_fits first (Real SECOND_ARGUMENT) b,
+      (refl, (refl, (refl, (refl, code_fits rest m h)))),
+    ),
+  )
   code_fits (LowCall d k args rest) m h = with_args args _ (refl, (refl, code_fits rest m h.1))
   code_fits (LowCallAt d f args rest) m h = with_source THIRD_SCRATCH f _
       (with_args args _ (refl, (refl, code_fits rest m h.1)))

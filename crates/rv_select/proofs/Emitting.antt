@@ -24,14 +24,14 @@ args_next first from zero (x ∷ xs) d h =
 args_next first from (suc i) (x ∷ xs) d h =
     let same : suc from + i ≡ from + suc i = omega arith in
     ap (λ ys. put_item first (Real (FIRST_ARGUMENT + from)) x ∷ ys)
-        (args_next first (suc from) i xs d (omega (arith, h))
+    (args_next first (suc from) i xs d (omega (arith, h))
     ∙ ap (λ n. args_items first (suc from) (take i xs)
-        ++ (put_item first (Real (FIRST_ARGUMENT + n)) (get_or xs i d) ∷ [])) same)
+    ++ (put_item first (Real (FIRST_ARGUMENT + n)) (get_or xs i d) ∷ [])) same)
 
 -- one more word is handed on
 pub args_more : (first i : ℕ) (xs : List LowSource) (d : LowSource) (item : VirtualItem)
     (items old before : List VirtualItem) → i < length xs
-        → item ≡ put_item first (Real (FIRST_ARGUMENT + i)) (get_or xs i d)
+    → item ≡ put_item first (Real (FIRST_ARGUMENT + i)) (get_or xs i d)
     → before ≡ old ++ args_items first 0 (take i xs) → items ≡ before ++ (item ∷ [])
     → items ≡ old ++ args_items first 0 (take (i + 1) xs)
 args_more first i xs d item items old before h e b k =
@@ -39,7 +39,7 @@ args_more first i xs d item items old before h e b k =
     let whole : 0 + i ≡ i = omega arith in
     let more = args_next first 0 i xs d h
     ∙ ap (λ n. args_items first 0 (take i xs)
-        ++ (put_item first (Real (FIRST_ARGUMENT + n)) (get_or xs i d) ∷ [])) whole in
+    ++ (put_item first (Real (FIRST_ARGUMENT + n)) (get_or xs i d) ∷ [])) whole in
     k ∙ (ap (λ z. z ++ (item ∷ [])) b ∙ (append_assoc old (args_items first 0 (take i xs)) (item ∷ [])
     ∙ (ap (λ y. old ++ (args_items first 0 (take i xs) ++ (y ∷ []))) e ∙ (ap (λ z. old ++ z) (sym more)
     ∙ ap (λ n. old ++ args_items first 0 (take n xs)) next))))
@@ -82,7 +82,7 @@ stores_next first offset (suc i) (x ∷ xs) d h =
     let y : LowSource = get_or xs i d in
     ap (λ ys. source_items FIRST_SCRATCH x ++ (one ∷ ys)) (stores_next first (offset + 8) i xs d (omega (arith, h))
     ∙ ap (λ n. later
-        ++ (source_items FIRST_SCRATCH y ++ (Store (source_reg first FIRST_SCRATCH y) (Real ALLOCATION) n ∷ []))) same)
+    ++ (source_items FIRST_SCRATCH y ++ (Store (source_reg first FIRST_SCRATCH y) (Real ALLOCATION) n ∷ []))) same)
     ∙ sym (append_assoc (source_items FIRST_SCRATCH x) (one ∷ later) _)
 
 -- one more word is stored
@@ -99,10 +99,10 @@ stores_more first i xs d items old before middle h b m k =
     let one : List VirtualItem = Store (source_reg first FIRST_SCRATCH y) (Real ALLOCATION) (8 * i) ∷ [] in
     let more = stores_next first 0 i xs d h
     ∙ ap (λ n. done
-        ++ (source_items FIRST_SCRATCH y ++ (Store (source_reg first FIRST_SCRATCH y) (Real ALLOCATION) n ∷ [])))
-          whole in
+    ++ (source_items FIRST_SCRATCH y ++ (Store (source_reg first FIRST_SCRATCH y) (Real ALLOCATION) n ∷ [])))
+    whole in
     k ∙ (ap (λ z. z ++ one) (m ∙ ap (λ z. z ++ source_items FIRST_SCRATCH y) b)
-        ∙ (flat old done (source_items FIRST_SCRATCH y) one
+    ∙ (flat old done (source_items FIRST_SCRATCH y) one
     ∙ (ap (λ z. old ++ z) (sym more) ∙ ap (λ n. old ++ stores_items first 0 (take n xs)) next)))
   where
     flat : (o xs ys zs : List VirtualItem) → ((o ++ xs) ++ ys) ++ zs ≡ o ++ (xs ++ (ys ++ zs))
@@ -128,11 +128,11 @@ module _ (first out m at_one m1 at_end m2 m3 m4 : ℕ) (cond : Cond) (a b : LowS
       let f4 : m2 ≡ suc (suc m) = omega (arith, e2, e4) in
       rw (h6, h5, h4, h3, h2, h1, e6, e5, f4, f3, e1)
       (joined i0 (source_items FIRST_SCRATCH a) (source_items SECOND_SCRATCH b)
-        (code_items first out (suc (suc m)) other)
+      (code_items first out (suc (suc m)) other)
       (code_items first out (suc (suc m) + marks_in other) one)
       (code_items first out (suc (suc m) + marks_in other + marks_in one) rest)
       (Branch cond (source_reg first FIRST_SCRATCH a) (source_reg first SECOND_SCRATCH b) m) (Jump (suc m)) (Mark m)
-        (Mark (suc m)))
+      (Mark (suc m)))
 
 -- and has so many marks
 pub marks_more : (m m1 m2 m3 m4 : ℕ) (cond : Cond) (a b : LowSource) (one other rest : Code) → m1 ≡ m + 1

@@ -157,18 +157,18 @@ module _ {V : Type 0} (reading : Halt → Ending V) (setting : Setting) where
               beyond (source_items SECOND_SCRATCH b) (beyond (source_items FIRST_SCRATCH a) t.pc);
         })) → PaidWay reading setting P Q (fetches a (fetches b k))
         (prices setting t.active.found (source_items FIRST_SCRATCH a)
-          (prices setting t.active.found (source_items SECOND_SCRATCH b) left)) t
+        (prices setting t.active.found (source_items SECOND_SCRATCH b) left)) t
     fetch_both a b x y t rest k left ae be f s p go =
         fetch FIRST_SCRATCH (refl, refl, refl, refl) a x t (source_items SECOND_SCRATCH b ++ rest) (fetches b k)
         (prices setting t.active.found (source_items SECOND_SCRATCH b) left) ae f s
         (p t.regs t.known t.pc (fixed_self t.regs)) (λ regs known kept va.
         let u : VirtualState = record t
-          { regs = regs; known = known; pc = beyond (source_items FIRST_SCRATCH a) t.pc } in
+        { regs = regs; known = known; pc = beyond (source_items FIRST_SCRATCH a) t.pc } in
         fetch SECOND_SCRATCH (refl, refl, refl, refl) b y u rest k left be f
-          (stands_past reading setting (source_items FIRST_SCRATCH a)
+        (stands_past reading setting (source_items FIRST_SCRATCH a)
         (source_items SECOND_SCRATCH b ++ rest) t.pc s) (p regs known u.pc (kept_fixed kept refl refl refl))
         (λ regs2 known2 kept2 vb.
         go regs2 known2 (also_fixed (kept_fixed kept2 refl refl refl) (kept_fixed kept refl refl refl))
         (kept_value u SECOND_SCRATCH regs2 known2 (beyond (source_items SECOND_SCRATCH b) u.pc) kept2
         (source_reg t.active.found.first FIRST_SCRATCH a) x (source_apart t.active.found.first FIRST_SCRATCH
-          SECOND_SCRATCH a refl refl) va) vb))
+        SECOND_SCRATCH a refl refl) va) vb))

@@ -272,7 +272,7 @@ module _ (M : ℕ → Held) where
         go K (λ z y. u z (up_reg rd L z y)) (λ i p q. pick K u has i p q (i == from) refl)))
       where
         pick : (K : Held) → Up (with_reg (Real (FIRST_ARGUMENT + from)) L) K
-          → ((i : ℕ) → suc from ≤ i → i < suc from + length args
+            → ((i : ℕ) → suc from ≤ i → i < suc from + length args
             → K (Real (FIRST_ARGUMENT + i)) ≡ true) → (i : ℕ) → from ≤ i → i < from + suc (length args) → (c : Bool)
             → (i == from) ≡ c → K (Real (FIRST_ARGUMENT + i)) ≡ true
         pick K u has i p q true e =
@@ -312,7 +312,7 @@ module _ (M : ℕ → Held) where
 
     call_at_ok : (f : VReg) (n : ℕ) (L : Held) (xs : List VirtualItem) → L f ≡ true
         → ((i : ℕ) → 0 ≤ i → i < 0 + n → L (Real (FIRST_ARGUMENT + i)) ≡ true) → Ok (behind_call L) xs
-          → Ok L (CallAt f n ∷ xs)
+        → Ok L (CallAt f n ∷ xs)
     call_at_ok f n L xs hf has o =
         record {
           next = λ a h. h;
@@ -336,7 +336,7 @@ module _ (M : ℕ → Held) where
         (source_ok FIRST_SCRATCH a known L (item ∷ (later ++ xs)) h k.0 (λ K u s.
         plain_ok item K (later ++ xs) tt (λ z r. two_read K (Real ALLOCATION) (source_reg first FIRST_SCRATCH a) z
         (u (Real ALLOCATION) (h.0 ALLOCATION refl)) s r) (stores_ok args (offset + 8) known K xs
-          (has_up L K first known u h) k.1
+        (has_up L K first known u h) k.1
         (λ J v. go J (λ z y. v z (u z y))))))
 
 -- ---- code
@@ -418,7 +418,7 @@ module _ (M : ℕ → Held) (procs : List Proc) (n first out : ℕ) (fixed_out :
       good_code rest m (also d known) k _ ys (set_has J known d w) g.1 s go)))
     where
       computed : (c : Bool) (K : Held) → Has K first known → K (source_reg first FIRST_SCRATCH a) ≡ true
-        → is_known known b ≡ true
+          → is_known known b ≡ true
           → ((J : Held) → Has J first known → Ok M (with_reg (Virtual (first + d)) J) (code_items first out m rest
           ++ ys)) → Ok M K ((second_items c b ++ (compute_item c first op (Virtual (first + d)) a b
           ∷ code_items first out m rest)) ++ ys)
@@ -427,11 +427,11 @@ module _ (M : ℕ → Held) (procs : List Proc) (n first out : ℕ) (fixed_out :
           (λ z r. one_read M K (source_reg first FIRST_SCRATCH a) z va r) (next K hk)
       computed false K hk va kb next =
           let item : VirtualItem = Compute op (Virtual (first + d)) (source_reg first FIRST_SCRATCH a)
-            (source_reg first SECOND_SCRATCH b) in
+          (source_reg first SECOND_SCRATCH b) in
           subst (Ok M K) (sym (append_assoc (source_items SECOND_SCRATCH b) (item ∷ code_items first out m rest) ys))
           (source_ok M first out SECOND_SCRATCH b known K _ hk kb (λ J w vb.
           plain_ok M item J _ tt (λ z r.
-            two_read M J (source_reg first FIRST_SCRATCH a) (source_reg first SECOND_SCRATCH b) z (w _ va) vb r)
+          two_read M J (source_reg first FIRST_SCRATCH a) (source_reg first SECOND_SCRATCH b) z (w _ va) vb r)
           (next J (has_up K J first known w hk))))
   good_code (LowLoad d a offset rest) m known k L ys h e s go =
       let g = parted procs n known (LowLoad d a offset rest) _ k e in
@@ -448,12 +448,12 @@ module _ (M : ℕ → Held) (procs : List Proc) (n first out : ℕ) (fixed_out :
       let item : VirtualItem = Store (source_reg first SECOND_SCRATCH b) (source_reg first FIRST_SCRATCH a) offset in
       let code : List VirtualItem = code_items first out m rest in
       subst (Ok M L) (sym (append_assoc (source_items FIRST_SCRATCH a) (source_items SECOND_SCRATCH b
-        ++ (item ∷ code)) ys))
+      ++ (item ∷ code)) ys))
       (source_ok M first out FIRST_SCRATCH a known L _ h ka (λ K u va.
       subst (Ok M K) (sym (append_assoc (source_items SECOND_SCRATCH b) (item ∷ code) ys))
       (source_ok M first out SECOND_SCRATCH b known K _ (has_up L K first known u h) kb (λ J w vb.
       plain_ok M item J _ tt (λ z r.
-        two_read M J (source_reg first FIRST_SCRATCH a) (source_reg first SECOND_SCRATCH b) z (w _ va) vb r)
+      two_read M J (source_reg first FIRST_SCRATCH a) (source_reg first SECOND_SCRATCH b) z (w _ va) vb r)
       (good_code rest m known k _ ys (has_up K J first known w (has_up L K first known u h)) g.1 s go)))))
   good_code (LowCodeOf d i rest) m known k L ys h e s go =
       let g = parted procs n known (LowCodeOf d i rest) _ k e in
@@ -468,23 +468,23 @@ module _ (M : ℕ → Held) (procs : List Proc) (n first out : ℕ) (fixed_out :
       let h2 : Has L2 first known = has_up L L2 first known u2 h in
       let code : List VirtualItem = code_items first out m rest in
       let tail : List VirtualItem = Move (Virtual (first + d)) (Real ALLOCATION)
-        ∷ Compute Add (Real ALLOCATION) (Real ALLOCATION) (Real SECOND_SCRATCH)
+      ∷ Compute Add (Real ALLOCATION) (Real ALLOCATION) (Real SECOND_SCRATCH)
       ∷ code in
       plain_ok M (Compute Sub (Real FIRST_SCRATCH) (Real REGION_END) (Real ALLOCATION)) L _ tt (λ z r.
       two_read M L (Real REGION_END) (Real ALLOCATION) z (h.0 REGION_END refl) (h.0 ALLOCATION refl) r) (
       plain_ok M (Constant (Real SECOND_SCRATCH) (8 * length args)) L1 _ tt (λ z r. absurd r) (
       branch_ok M Ltu (Real FIRST_SCRATCH) (Real SECOND_SCRATCH) out L2 _
-        (up_reg (Real SECOND_SCRATCH) L1 (Real FIRST_SCRATCH) (reg_there (Real FIRST_SCRATCH) L))
+      (up_reg (Real SECOND_SCRATCH) L1 (Real FIRST_SCRATCH) (reg_there (Real FIRST_SCRATCH) L))
       (reg_there (Real SECOND_SCRATCH) L1) (out_held L2 known h2) (
       subst (Ok M L2) (sym (append_assoc (stores_items first 0 args) tail ys))
       (stores_ok M first out args 0 known L2 (tail ++ ys) h2 ka (λ K u.
       let hk : Has K first known = has_up L2 K first known u h2 in
       let K1 : Held = with_reg (Virtual (first + d)) K in
       let six : K1 (Real SECOND_SCRATCH) ≡ true = up_reg (Virtual (first + d)) K (Real SECOND_SCRATCH)
-        (u (Real SECOND_SCRATCH) (reg_there (Real SECOND_SCRATCH) L1)) in
+      (u (Real SECOND_SCRATCH) (reg_there (Real SECOND_SCRATCH) L1)) in
       let h3 = set_has K known d hk in
       plain_ok M (Move (Virtual (first + d)) (Real ALLOCATION)) K _ tt
-        (λ z r. one_read M K (Real ALLOCATION) z (hk.0 ALLOCATION refl) r) (
+      (λ z r. one_read M K (Real ALLOCATION) z (hk.0 ALLOCATION refl) r) (
       plain_ok M (Compute Add (Real ALLOCATION) (Real ALLOCATION) (Real SECOND_SCRATCH)) K1 _ tt (λ z r.
       two_read M K1 (Real ALLOCATION) (Real SECOND_SCRATCH) z (h3.0 ALLOCATION refl) six r) (
       good_code rest m (also d known) k _ ys (has_up K1 (with_reg (Real ALLOCATION) K1) first (also d known)
@@ -495,10 +495,10 @@ module _ (M : ℕ → Held) (procs : List Proc) (n first out : ℕ) (fixed_out :
       let code : List VirtualItem = code_items first out m rest in
       let reg : VReg = source_reg first THIRD_SCRATCH a in
       let tail : List VirtualItem = Compute Sub (Real FIRST_SCRATCH) (Real REGION_END) (Real ALLOCATION)
-        ∷ ComputeWith Srl (Real FIRST_SCRATCH) (Real FIRST_SCRATCH) 3
+      ∷ ComputeWith Srl (Real FIRST_SCRATCH) (Real FIRST_SCRATCH) 3
       ∷ Branch Ltu (Real FIRST_SCRATCH) reg out ∷ Move (Virtual (first + d)) (Real ALLOCATION) ∷ code in
       subst (Ok M L) (sym (append_assoc (source_items THIRD_SCRATCH a) tail ys))
-        (source_ok M first out THIRD_SCRATCH a known L _ h ka (λ K u v.
+      (source_ok M first out THIRD_SCRATCH a known L _ h ka (λ K u v.
       let hk : Has K first known = has_up L K first known u h in
       let K1 : Held = with_reg (Real FIRST_SCRATCH) K in
       let K2 : Held = with_reg (Real FIRST_SCRATCH) K1 in
@@ -509,10 +509,10 @@ module _ (M : ℕ → Held) (procs : List Proc) (n first out : ℕ) (fixed_out :
       plain_ok M (ComputeWith Srl (Real FIRST_SCRATCH) (Real FIRST_SCRATCH) 3) K1 _ tt (λ z r.
       one_read M K1 (Real FIRST_SCRATCH) z (reg_there (Real FIRST_SCRATCH) K) r) (
       branch_ok M Ltu (Real FIRST_SCRATCH) reg out K2 _ (reg_there (Real FIRST_SCRATCH) K1)
-        (up_reg (Real FIRST_SCRATCH) K1 reg (up_reg (Real FIRST_SCRATCH) K reg v))
+      (up_reg (Real FIRST_SCRATCH) K1 reg (up_reg (Real FIRST_SCRATCH) K reg v))
       (out_held K2 known h2) (
       plain_ok M (Move (Virtual (first + d)) (Real ALLOCATION)) K2 _ tt
-        (λ z r. one_read M K2 (Real ALLOCATION) z (h2.0 ALLOCATION refl) r) (
+      (λ z r. one_read M K2 (Real ALLOCATION) z (h2.0 ALLOCATION refl) r) (
       good_code rest m (also d known) k _ ys (set_has K2 known d h2) g.1 s go))))))
   good_code (Take a rest) m known k L ys h e s go =
       let g = parted procs n known (Take a rest) _ k e in
@@ -520,18 +520,18 @@ module _ (M : ℕ → Held) (procs : List Proc) (n first out : ℕ) (fixed_out :
       let code : List VirtualItem = code_items first out m rest in
       let reg : VReg = source_reg first THIRD_SCRATCH a in
       let tail : List VirtualItem = ComputeWith Sll (Real FIRST_SCRATCH) reg 3
-        ∷ Compute Add (Real ALLOCATION) (Real ALLOCATION) (Real FIRST_SCRATCH) ∷ code in
+      ∷ Compute Add (Real ALLOCATION) (Real ALLOCATION) (Real FIRST_SCRATCH) ∷ code in
       subst (Ok M L) (sym (append_assoc (source_items THIRD_SCRATCH a) tail ys))
-        (source_ok M first out THIRD_SCRATCH a known L _ h ka (λ K u v.
+      (source_ok M first out THIRD_SCRATCH a known L _ h ka (λ K u v.
       let hk : Has K first known = has_up L K first known u h in
       let K1 : Held = with_reg (Real FIRST_SCRATCH) K in
       let h1 : Has K1 first known = has_up K K1 first known (up_reg (Real FIRST_SCRATCH) K) hk in
       plain_ok M (ComputeWith Sll (Real FIRST_SCRATCH) reg 3) K _ tt (λ z r. one_read M K reg z v r) (
       plain_ok M (Compute Add (Real ALLOCATION) (Real ALLOCATION) (Real FIRST_SCRATCH)) K1 _ tt (λ z r.
       two_read M K1 (Real ALLOCATION) (Real FIRST_SCRATCH) z (h1.0 ALLOCATION refl)
-        (reg_there (Real FIRST_SCRATCH) K) r) (
+      (reg_there (Real FIRST_SCRATCH) K) r) (
       good_code rest m known k _ ys
-        (has_up K1 (with_reg (Real ALLOCATION) K1) first known (up_reg (Real ALLOCATION) K1) h1) g.1 s
+      (has_up K1 (with_reg (Real ALLOCATION) K1) first known (up_reg (Real ALLOCATION) K1) h1) g.1 s
       go))))
   good_code (LowEnvironment number a b d e rest) m known k L ys h q s go =
       let g = parted procs n known (LowEnvironment number a b d e rest) _ k q in
@@ -546,7 +546,7 @@ module _ (M : ℕ → Held) (procs : List Proc) (n first out : ℕ) (fixed_out :
       let h3 : Has L3 first known = has_up L2 L3 first known (up_reg (Real CALL_NUMBER) L2) h2 in
       let h4 : Has L4 first known =
       has_up L3 L4 first known (λ z y. or_right (among z (Real FIRST_ARGUMENT ∷ Real SECOND_ARGUMENT ∷ [])) (L3 z) y)
-        h3 in
+      h3 in
       let L5 : Held = with_reg (Virtual (first + d)) L4 in
       put_ok M first out (Real FIRST_ARGUMENT) a known L _ h ka (
       put_ok M first out (Real SECOND_ARGUMENT) b known L1 _ h1 kb (
@@ -554,9 +554,9 @@ module _ (M : ℕ → Held) (procs : List Proc) (n first out : ℕ) (fixed_out :
       plain_ok M Environment L3 _ tt (λ z y. ⊎_elim (λ e0. subst (λ x. L3 x ≡ true) e0 refl)
       (λ i. two_read M L3 (Real FIRST_ARGUMENT) (Real SECOND_ARGUMENT) z refl refl i) y) (
       plain_ok M (Move (Virtual (first + d)) (Real FIRST_ARGUMENT)) L4 _ tt
-        (λ z y. one_read M L4 (Real FIRST_ARGUMENT) z refl y) (
+      (λ z y. one_read M L4 (Real FIRST_ARGUMENT) z refl y) (
       plain_ok M (Move (Virtual (first + e)) (Real SECOND_ARGUMENT)) L5 _ tt
-        (λ z y. one_read M L5 (Real SECOND_ARGUMENT) z refl y) (
+      (λ z y. one_read M L5 (Real SECOND_ARGUMENT) z refl y) (
       good_code rest m (also e (also d known)) k _ ys (set_has L5 (also d known) e (set_has L4 known d h4)) g.1 s
       go))))))
   good_code (LowCall d i args rest) m known k L ys h e s go =
@@ -620,7 +620,7 @@ module _ (M : ℕ → Held) (procs : List Proc) (n first out : ℕ) (fixed_out :
       subst (Ok M L) (sym (append_assoc (source_items FIRST_SCRATCH a) (source_items SECOND_SCRATCH b ++ all) ys))
       (source_ok M first out FIRST_SCRATCH a known L _ h ka (λ K u va.
       subst (Ok M K) (sym (append_assoc (source_items SECOND_SCRATCH b) all ys))
-        (source_ok M first out SECOND_SCRATCH b known K (all
+      (source_ok M first out SECOND_SCRATCH b known K (all
       ++ ys) (has_up L K first known u h) kb (λ J w vb.
       let hj : Has J first known = has_up K J first known w (has_up L K first known u h) in
       branch_ok M cond ra rb m J ((other_code ++ mid) ++ ys) (w ra va) vb
@@ -802,8 +802,8 @@ module _ (procs : List Proc) where
     -- where a request finds no room
     out_ok : (first out : ℕ) (L : Held) (xs : List VirtualItem) → ((z : VReg) → M out z ≡ lift first (λ i. false) z)
         → Has L first (λ i. false)
-          → Good M (with_reg (Real CALL_NUMBER) (with_reg (Real SECOND_ARGUMENT)
-            (with_reg (Real FIRST_ARGUMENT) (M out)))) xs
+        → Good M (with_reg (Real CALL_NUMBER) (with_reg (Real SECOND_ARGUMENT)
+        (with_reg (Real FIRST_ARGUMENT) (M out)))) xs
         → ((K : Held) → Good M K xs) → Ok M L (out_items out ++ xs)
     out_ok first out L xs e h g more =
         let L1 : Held = with_reg (Real FIRST_ARGUMENT) (M out) in
@@ -818,7 +818,7 @@ module _ (procs : List Proc) where
         (λ i. two_read M L3 (Real FIRST_ARGUMENT) (Real SECOND_ARGUMENT) z refl refl i) y) (
         jump_ok M out L4 xs (λ z y. or_right (among z (Real FIRST_ARGUMENT ∷ Real SECOND_ARGUMENT ∷ [])) (L3 z)
         (up_reg (Real CALL_NUMBER) L2 z (up_reg (Real SECOND_ARGUMENT) L1 z
-          (up_reg (Real FIRST_ARGUMENT) (M out) z y)))) (more L4))))))
+        (up_reg (Real FIRST_ARGUMENT) (M out) z y)))) (more L4))))))
 
     there : (o : Option Known) → is_there o ≡ true → (k : Known) × (o ≡ Some k)
     there None e = absurd (let z : ⊥ = cc in z)
@@ -913,10 +913,10 @@ selected_good entry procs closed =
     let answer : Ok M L0 (answer_items ++ rest) =
     plain_ok M (Move (Real SECOND_ARGUMENT) (Real ANSWER)) L0 _ tt (λ z y. one_read M L0 (Real ANSWER) z refl y)
     (plain_ok M (Constant (Real FIRST_ARGUMENT) 0) L1 _ tt (λ z y. absurd y)
-        (plain_ok M (Constant (Real CALL_NUMBER) END_CALL) L2 _ tt
+    (plain_ok M (Constant (Real CALL_NUMBER) END_CALL) L2 _ tt
     (λ z y. absurd y) (plain_ok M Environment L3 (Return ∷ rest) tt
     (λ z y. ⊎_elim (λ e0. subst (λ x. L3 x ≡ true) e0 refl) (λ i. two_read M L3 (Real FIRST_ARGUMENT)
-        (Real SECOND_ARGUMENT) z refl refl i)
+    (Real SECOND_ARGUMENT) z refl refl i)
     y) last))) in
     (λ z y. absurd y, (λ f. answer.next), (λ m z e y. absurd (let x : ⊥ = cc in x)), answer.good)
 

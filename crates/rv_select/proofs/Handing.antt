@@ -55,11 +55,11 @@ pub known_args : (ws : List ℕ) (from i : ℕ) (known : ℕ → Bool) → from 
 known_args [] from i known h k = absurd (let z : ⊥ = omega (arith, h, k) in z)
 known_args (w ∷ ws) from i known h k =
     pick (i == from) refl (λ later. known_args ws (suc from) i (also_known (FIRST_ARGUMENT + from) known) later
-        (omega (arith, k)))
+    (omega (arith, k)))
   where
     pick : (c : Bool) → (i == from) ≡ c
         → (suc from ≤ i
-          → args_known (suc from) ws (also_known (FIRST_ARGUMENT + from) known) (FIRST_ARGUMENT + i) ≡ true)
+        → args_known (suc from) ws (also_known (FIRST_ARGUMENT + from) known) (FIRST_ARGUMENT + i) ≡ true)
         → args_known from (w ∷ ws) known (FIRST_ARGUMENT + i) ≡ true
     pick true e ih =
         let same : (FIRST_ARGUMENT + i == FIRST_ARGUMENT + from) ≡ true = grind arith in
@@ -135,7 +135,7 @@ has_args [] from regs = tt
 has_args (w ∷ ws) from regs = (
   get_arg from (args_regs (suc from) ws (set_reg (FIRST_ARGUMENT + from) w regs))
       ∙ (args_low ws (suc from) (FIRST_ARGUMENT + from) (set_reg (FIRST_ARGUMENT + from) w regs) (omega arith)
-        ∙ same_reg from w regs),
+      ∙ same_reg from w regs),
   has_args ws (suc from) (set_reg (FIRST_ARGUMENT + from) w regs),
 )
 
@@ -164,7 +164,7 @@ bound [] first from (suc n) regs L l e h k i = absurd (omega (arith, e))
 bound (w ∷ ws) first from zero regs L l e h k i = absurd (omega (arith, e))
 bound (w ∷ ws) first from (suc n) regs L l e h k i =
     bound ws first (suc from) n regs (set_local (first + from) (get_reg regs (FIRST_ARGUMENT + from)) L)
-        (set_local from w l)
+    (set_local from w l)
     (omega (arith, e)) (λ j. ap (λ x. set_local (first + from) x L (first + j)) k.0
     ∙ set_shifted first from w j L l (h j)) k.1 i
 
@@ -235,7 +235,7 @@ module _ {V : Type 0} (reading : Halt → Ending V) (setting : Setting) where
         let f3 : suc from + length c.1 ≤ 8 = omega (arith, f1) in
         does_item reading setting P Q (more args k) (prices setting t.active.found
         (args_items t.active.found.first (suc from) args) left) t t1 _ s.0
-          (put_real t l (FIRST_ARGUMENT + from) a c.0 c.2 h
+        (put_real t l (FIRST_ARGUMENT + from) a c.0 c.2 h
         (writable from (length c.1) f2)) (p t.regs t.known t.pc (fixed_self t.regs)) (
         hands args c.1 (suc from) t1 c.3 h f3 s.1 (λ regs known pc q.
         p regs known pc (also_fixed q (arg_fixed from c.0 t.regs (length c.1) f2))) r1)
@@ -281,10 +281,10 @@ module _ {V : Type 0} (reading : Halt → Ending V) (setting : Setting) where
         (params_items t.active.found.first (suc from) n) left) t t1 _ s.0 (move_local reading setting t
         (t.active.found.first + from) (Real (FIRST_ARGUMENT + from)) word
         (ap (λ b. if b && (is_fixed (FIRST_ARGUMENT + from) || t.known (FIRST_ARGUMENT + from)) then Some word else
-          None)
+        None)
         (readable from n f) ∙ ap (λ b. if b then Some word else None)
         (or_known (is_fixed (FIRST_ARGUMENT + from)) (kn from (omega arith) (omega arith))))
-          (own t.active.found from n g))
+        (own t.active.found from n g))
         (p t.active.locals t.pc) (
         takes n (suc from) t1 (λ i h k. kn i (omega (arith, h)) (omega (arith, k))) (omega (arith, f))
         (omega (arith, g)) s.1 (λ L pc. p L pc) r)

@@ -612,7 +612,7 @@ module _ {V : Type 0} (reading : Halt → Ending V) (low : LowSetting) (entry : 
       × Pays (NS reading low code (regs STACK_END) small room) (virtual_price (setting_of low code))
       (Alike (SameRegion (regs STACK_END) low.top) (MS reading low code (regs STACK_END) small room)
       (NS reading low code (regs STACK_END) small room) s0) (In reading low code (regs STACK_END) small room s0) j
-        start_price t0
+      start_price t0
   begun = first_in_stack reading low code (regs STACK_END) small room start_price s0 t0 (omega arith)
       (starts reading low entry p regs memory world small fits even found none alloc top
       (Way reading low code (regs STACK_END) small room s0 s0) (inl first, tt))

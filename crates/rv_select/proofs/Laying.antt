@@ -121,9 +121,13 @@ module _ (first out : ℕ) where
   )
   code_body (Request d a rest) m = with_source THIRD_SCRATCH a _ (tt, (tt, (tt, (tt, code_body rest m))))
   code_body (Take a rest) m = with_source THIRD_SCRATCH a _ (tt, (tt, code_body rest m))
-  code_body (LowEnvironment number a b d e rest) m =
-      (put_body first (Real FIRST_ARGUMENT) a, (put_body first (Real SECOND_ARGUMENT) b,
-        (tt, (tt, (tt, (tt, code_body rest m))))))
+  code_body (LowEnvironment number a b d e rest) m = (
+    put_body first (Real FIRST_ARGUMENT) a,
+    (
+      put_body first (Real SECOND_ARGUMENT) b,
+      (tt, (tt, (tt, (tt, code_body rest m)))),
+    ),
+  )
   code_body (LowCall d k args rest) m = with_args args _ (tt, (tt, code_body rest m))
   code_body (LowCallAt d f args rest) m = with_source THIRD_SCRATCH f _ (with_args args _ (tt, (tt, code_body rest m)))
   code_body (If cond a b one other rest) m =

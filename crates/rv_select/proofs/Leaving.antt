@@ -204,7 +204,7 @@ module _ {V : Type 0} (program : Program V) where
           does_item program.reading (setting program) (Way program s s1) Q (suc k)
           (item_price (setting program) found Return + left) t t1 put
           lies.stands.0 (put_real program.reading (setting program) t s.active.locals ANSWER a x e on.active.locals
-            refl)
+          refl)
           (way_first program s s1 t on.body) (
           does_item program.reading (setting program) (Way program s s1) Q k left t1 (record t1 {
             pc = f.back;

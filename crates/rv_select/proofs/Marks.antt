@@ -180,7 +180,7 @@ module _ (first out : ℕ) where
       subst (Fresh (Between m (m + marks_in rest))) (sym (sources_marks FIRST_SCRATCH a _)) (code_fresh rest m)
   code_fresh (LowStore b a offset rest) m =
       subst (Fresh (Between m (m + marks_in rest))) (sym (sources_marks FIRST_SCRATCH a _
-        ∙ sources_marks SECOND_SCRATCH b _))
+      ∙ sources_marks SECOND_SCRATCH b _))
       (code_fresh rest m)
   code_fresh (LowCodeOf d k rest) m = code_fresh rest m
   code_fresh (Build d args rest) m =
@@ -192,7 +192,7 @@ module _ (first out : ℕ) where
       subst (Fresh (Between m (m + marks_in rest))) (sym (sources_marks THIRD_SCRATCH a _)) (code_fresh rest m)
   code_fresh (LowEnvironment number a b d e rest) m =
       subst (Fresh (Between m (m + marks_in rest))) (sym (put_none first (Real FIRST_ARGUMENT) a _
-        ∙ put_none first (Real SECOND_ARGUMENT) b _))
+      ∙ put_none first (Real SECOND_ARGUMENT) b _))
       (code_fresh rest m)
   code_fresh (LowCall d k args rest) m =
       subst (Fresh (Between m (m + marks_in rest))) (sym (after (args_items first 0 args) _ (args_none first 0 args)))
@@ -210,11 +210,11 @@ module _ (first out : ℕ) where
       let zs : List VirtualItem = code_items first out m3 rest in
       let behind : List VirtualItem = Jump (suc m) ∷ Mark m ∷ (ys ++ (Mark (suc m) ∷ zs)) in
       let tested : List VirtualItem = Branch cond (source_reg first FIRST_SCRATCH a) (source_reg first SECOND_SCRATCH b)
-        m ∷ (xs ++ behind) in
+      m ∷ (xs ++ behind) in
       let parts : marks (code_items first out m (If cond a b one other rest))
       ≡ marks xs ++ (m ∷ (marks ys ++ (suc m ∷ marks zs))) =
       sources_marks FIRST_SCRATCH a (source_items SECOND_SCRATCH b ++ tested)
-        ∙ (sources_marks SECOND_SCRATCH b tested ∙ (marks_append xs behind
+      ∙ (sources_marks SECOND_SCRATCH b tested ∙ (marks_append xs behind
       ∙ ap (λ r. marks xs ++ (m ∷ r)) (marks_append ys (Mark (suc m) ∷ zs)))) in
       let whole : end ≡ m + (suc (suc (marks_in other)) + marks_in one + marks_in rest) = omega arith in
       let fresh = branch_fresh (marks xs) (marks ys) (marks zs) m m2 m3 end (omega arith) (omega arith) (omega arith)

@@ -114,7 +114,7 @@ module _ {V : Type 0} (program : Program V) where
           (item_price (setting program) f call_number + left) (t1 x) (t2 x y)
           second_word lies.stands.1.0
           (put_real program.reading (setting program) (t1 x) s.active.locals SECOND_ARGUMENT b y ye on.active.locals
-            refl)
+          refl)
           (way_first program s s1 (t1 x) on.body) (
           does_item program.reading (setting program) (Way program s s1) Q k left
           (t2 x y) (t3 x y) call_number lies.stands.1.1.0 refl

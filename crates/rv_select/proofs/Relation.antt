@@ -137,7 +137,7 @@ module _ {V : Type 0} (program : Program V) where
   Behind (w ∷ ws) [] = ⊥
   Behind (w ∷ ws) (f ∷ fs) =
       ActiveOn (Move (Virtual (f.active.found.first + w.answer)) (Real ANSWER) ∷ []) w.rest f.back f.active
-        × Behind ws fs
+      × Behind ws fs
 
   -- as many procedures are active in both, and have as many words
   abbrev pub AsMany : LowState → VirtualState → Type 0
@@ -166,7 +166,7 @@ module _ {V : Type 0} (program : Program V) where
   Body s t =
       (t.memory ≡ s.memory) × (t.regs ALLOCATION ≡ s.alloc) × AsMany s t × (t.world ≡ s.world)
       × (t.regs REGION_END ≡ program.low.top) × (s.alloc ≤ program.low.top) × (s.alloc % 8 ≡ 0)
-        × (program.low.region ≤ s.alloc)
+      × (program.low.region ≤ s.alloc)
       × (t.regs STACK_END ≡ program.stack)
 
   -- what is the same is seen so

@@ -62,13 +62,13 @@ module _ (first out : ℕ) where
   code_has (Take a rest) m w h k = later (source_items THIRD_SCRATCH a) _ w (code_has rest m w h k)
   code_has (LowEnvironment number a b d e rest) m w h k =
       later (put_item first (Real FIRST_ARGUMENT) a ∷ put_item first (Real SECOND_ARGUMENT) b ∷ []) _ w
-        (code_has rest m w h k)
+      (code_has rest m w h k)
   code_has (LowCall d i args rest) m w h k = later (args_items first 0 args) _ w (code_has rest m w h k)
   code_has (LowCallAt d f args rest) m w h k =
       later (source_items THIRD_SCRATCH f) _ w (later (args_items first 0 args) _ w (code_has rest m w h k))
   code_has (If cond a b one other rest) m w h k =
       later (source_items FIRST_SCRATCH a) _ w
-        (later (source_items SECOND_SCRATCH b) _ w (in_branch h k (code_has other (suc (suc m)) w)
+      (later (source_items SECOND_SCRATCH b) _ w (in_branch h k (code_has other (suc (suc m)) w)
       (code_has one (suc (suc m) + marks_in other) w) (code_has rest (suc (suc m) + marks_in other + marks_in one) w)
       (cases_lt w (suc (suc m)))))
     where
@@ -244,15 +244,16 @@ module _ (S : List ℕ) where
     code_well (Set d a rest) m h t s = (put_well first (Virtual (first + d)) a tt, code_well rest m h t s)
     code_well (LowCompute op d a b rest) m h t s =
         with_source FIRST_SCRATCH a _ refl
-          (well_append (second_items (is_small op b) b) _ (second_well (is_small op b) b)
+        (well_append (second_items (is_small op b) b) _ (second_well (is_small op b) b)
         (compute_well op first d a b (is_small op b), code_well rest m h t s))
     code_well (LowLoad d a offset rest) m h t s =
         with_source FIRST_SCRATCH a _ refl
-          ((tt, (tt, (readable_source first FIRST_SCRATCH a refl, tt))), code_well rest m h.1 t s)
+        ((tt, (tt, (readable_source first FIRST_SCRATCH a refl, tt))), code_well rest m h.1 t s)
     code_well (LowStore b a offset rest) m h t s =
-        with_source FIRST_SCRATCH a _ refl (with_source SECOND_SCRATCH b _ refl
-        ((tt, (readable_source first FIRST_SCRATCH a refl, (readable_source first SECOND_SCRATCH b refl, tt))),
-          code_well rest m h.1 t s))
+        with_source FIRST_SCRATCH a _ refl (with_source SECOND_SCRATCH b _ refl (
+          (tt, (readable_source first FIRST_SCRATCH a refl, (readable_source first SECOND_SCRATCH b refl, tt))),
+          code_well rest m h.1 t s,
+        ))
     code_well (LowCodeOf d k rest) m h t s = (((there k t.0, tt), (tt, tt)), code_well rest m h t.1 s)
     code_well (Build d args rest) m h t s = (
       (tt, (refl, (refl, (refl, tt)))),
@@ -303,9 +304,10 @@ module _ (S : List ℕ) where
     code_well (LowCall d k args rest) m h t s =
         with_args args _ h.0 (((there k t.0, tt), (refl, handed args h.0)), (answer_well d, code_well rest m h.1 t.1 s))
     code_well (LowCallAt d f args rest) m h t s =
-        with_source THIRD_SCRATCH f _ refl (with_args args _ h.0
-        ((tt, (refl, (readable_source first THIRD_SCRATCH f refl, handed args h.0))),
-          (answer_well d, code_well rest m h.1 t s)))
+        with_source THIRD_SCRATCH f _ refl (with_args args _ h.0 (
+          (tt, (refl, (readable_source first THIRD_SCRATCH f refl, handed args h.0))),
+          (answer_well d, code_well rest m h.1 t s),
+        ))
     code_well (If cond a b one other rest) m h t s =
         with_source FIRST_SCRATCH a _ refl (with_source SECOND_SCRATCH b _ refl (
           (
@@ -334,7 +336,7 @@ module _ (S : List ℕ) where
     code_well (LowTailCall k args) m h t s = with_args args _ h (((there k t, tt), handed args h), tt)
     code_well (LowTailCallAt f args) m h t s =
         with_source THIRD_SCRATCH f _ refl
-          (with_args args _ h ((tt, (readable_source first THIRD_SCRATCH f refl, handed args h)), tt))
+        (with_args args _ h ((tt, (readable_source first THIRD_SCRATCH f refl, handed args h)), tt))
 
   procs_well : (n : ℕ) → ((k : ℕ) → k < n → Contains S k) → (ps : List Proc) (k first mark : ℕ) → AreSmall ps
       → AllThere n ps → ((w : ℕ) → Has (procs_items k first mark ps) w → Contains S w)

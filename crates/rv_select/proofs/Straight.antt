@@ -70,14 +70,14 @@ module _ {V : Type 0} (program : Program V) where
   pub both_paid : (s : LowState) (t : VirtualState) (a b : LowSource) (left : ℕ)
       → (let f : Found = t.active.found in
       prices (setting program) f (source_items FIRST_SCRATCH a)
-        (prices (setting program) f (source_items SECOND_SCRATCH b) left)
+      (prices (setting program) f (source_items SECOND_SCRATCH b) left)
       + (register_price f.first (source_reg f.first FIRST_SCRATCH a) + register_price f.first
-        (source_reg f.first SECOND_SCRATCH b))
+      (source_reg f.first SECOND_SCRATCH b))
       ≤ source_price a + source_price b + left)
   both_paid s t a b left =
       let f : Found = t.active.found in
       let p = source_paid (setting program) f FIRST_SCRATCH a
-        (prices (setting program) f (source_items SECOND_SCRATCH b) left) in
+      (prices (setting program) f (source_items SECOND_SCRATCH b) left) in
       let q = source_paid (setting program) f SECOND_SCRATCH b left in omega (arith, p, q)
 
   pub do_compute : (s : LowState) (t : VirtualState) (on : On program s t) (op : WordOp)
@@ -123,14 +123,14 @@ module _ {V : Type 0} (program : Program V) where
       by_kind x y ae be h true small_b there =
           let s1 : LowState = after x y in
           let item : VirtualItem = ComputeWith op (Virtual (first + d)) (source_reg first FIRST_SCRATCH a)
-            (number_of b) in
+          (number_of b) in
           let k = small_is b y small_b be in (
             fetches a 1,
             inl (let z = fetches_ge a 1 in omega (arith, z)),
             prices (setting program) f (source_items FIRST_SCRATCH a)
-              (item_price (setting program) f item + owed s.waiting),
+                (item_price (setting program) f item + owed s.waiting),
             (let p = source_paid (setting program) f FIRST_SCRATCH a
-              (item_price (setting program) f item + owed s.waiting) in
+                (item_price (setting program) f item + owed s.waiting) in
                 let q = own_slot first d in omega (arith, p, q)),
             fetch program.reading (setting program) (Way program s s1) (At program s1) s.active.locals FIRST_SCRATCH
                 (refl, refl, refl, refl) a x t (item
@@ -151,12 +151,12 @@ module _ {V : Type 0} (program : Program V) where
       by_kind x y ae be h false small_b there =
           let s1 : LowState = after x y in
           let item : VirtualItem = Compute op (Virtual (first + d)) (source_reg first FIRST_SCRATCH a)
-            (source_reg first SECOND_SCRATCH b) in
+          (source_reg first SECOND_SCRATCH b) in
           let pc : ℕ = beyond (source_items SECOND_SCRATCH b) p1 in (
             fetches a (fetches b 1),
             inl (some_steps a b),
             prices (setting program) f (source_items FIRST_SCRATCH a)
-              (prices (setting program) f (source_items SECOND_SCRATCH b)
+                (prices (setting program) f (source_items SECOND_SCRATCH b)
                 (item_price (setting program) f item + owed s.waiting)),
             (let p = both_paid s t a b (item_price (setting program) f item + owed s.waiting) in
                 let q = own_slot first d in omega (arith, p, q)),
@@ -171,7 +171,7 @@ module _ {V : Type 0} (program : Program V) where
                 ∷ items_of program s t on rest) s.active.rests (past program t.active.found on.active.out t.pc
                 (source_items FIRST_SCRATCH a)
                 (source_items SECOND_SCRATCH b ++ (item ∷ items_of program s t on rest)) s.active.rests there))
-                  (given_is _ _ x _ va
+                (given_is _ _ x _ va
                 ∙ (given_is _ _ y _ vb ∙ write_local program.reading (setting program)
                 (record t { regs = regs; known = known; pc = pc })
                 (first + d) (compute op x y) (mine program s t on d h)))),
@@ -199,7 +199,7 @@ module _ {V : Type 0} (program : Program V) where
         inl (let z = fetches_ge a 1 in omega (arith, z)),
         prices (setting program) f (source_items FIRST_SCRATCH a) left,
         (let p = source_paid (setting program) f FIRST_SCRATCH a left in let q = own_slot first d in omega
-          (arith, p, q)),
+            (arith, p, q)),
         fetch program.reading (setting program) (Way program s s1) (At program s1) s.active.locals FIRST_SCRATCH
             (refl, refl, refl, refl) a x t (item
             ∷ items_of program s t on rest) 1 left ae on.active.locals lies.stands (way_first program s s1 t on.body)
@@ -239,7 +239,7 @@ module _ {V : Type 0} (program : Program V) where
         fetches a (fetches b 1),
         inl (some_steps a b),
         prices (setting program) f (source_items FIRST_SCRATCH a)
-          (prices (setting program) f (source_items SECOND_SCRATCH b) left),
+            (prices (setting program) f (source_items SECOND_SCRATCH b) left),
         (let p = both_paid s t a b left in omega (arith, p)),
         fetch_both program.reading (setting program) (Way program s s1) (At program s1) s.active.locals a b x y t (item
             ∷ items_of program s t on rest) 1 left ae be on.active.locals lies.stands (way_regs program s s1 t on.body)
