@@ -92,6 +92,16 @@ words_rise types a (suc b) less = elim (below_or_last a b (omega (arith, less)))
   | inr same ↦ (let e = ap (words_before types) same in omega (arith, e))
 ]
 
+-- the words of the objects of one type more
+pub words_next : (types : TypeRows) (type_at : List ℕ) (type : ℕ)
+    → words_of_all (type_objects types (λ t. slice_index type_at t) (suc type))
+    ≡ words_of_all (type_objects types (λ t. slice_index type_at t) type) ++ type_object types type_at type
+words_next types type_at type =
+    words_append (type_objects types (λ t. slice_index type_at t) type)
+    (object_of_type types (λ t. slice_index type_at t) type ∷ [])
+    ∙ ap (λ (xs : List ℕ). words_of_all (type_objects types (λ t. slice_index type_at t) type) ++ xs)
+    (append-nil (type_object types type_at type))
+
 module _ (types : TypeRows) (table : IsOrderedTable types) where
   wide : (type : ℕ) → type < length types → HasWidth (rows_of types type)
   wide type within =
@@ -116,17 +126,10 @@ module _ (types : TypeRows) (table : IsOrderedTable types) where
     abbrev words_to : ℕ → List ℕ
     words_to many = words_of_all (type_objects types (λ type. slice_index type_at type) many)
 
-    -- the words of one type more
-    pub words_next : (type : ℕ) → words_to (suc type) ≡ words_to type ++ type_object types type_at type
-    words_next type =
-        words_append (type_objects types (λ t. slice_index type_at t) type)
-        (object_of_type types (λ t. slice_index type_at t) type ∷ [])
-        ∙ ap (λ (xs : List ℕ). words_to type ++ xs) (append-nil (type_object types type_at type))
-
     pub words_long : (many : ℕ) → length (words_to many) ≡ words_before types many
     words_long zero = refl
     words_long (suc many) =
-        ap (λ (xs : List ℕ). length xs) (words_next many)
+        ap (λ (xs : List ℕ). length xs) (words_next types type_at many)
         ∙ length-append (words_to many) (type_object types type_at many)
         ∙ ap₂ (λ n k. n + suc k) (words_long many)
         (length-map (parts_of (rows_of types many)) (λ place. slice_index type_at place))
@@ -140,7 +143,7 @@ module _ (types : TypeRows) (table : IsOrderedTable types) where
         × Tells memory (slice_index type_at type) (type_object types type_at type)
     told_parts memory type within t =
         let both = tells_both memory start (words_to type) (type_object types type_at type)
-        (subst (Tells memory start) (words_next type) t) in
+        (subst (Tells memory start) (words_next types type_at type) t) in
         (both.0, subst (λ at. Tells memory at (type_object types type_at type)) (sym (here type within)) both.1)
 
     -- an object tells its header, and the addresses of the type's parts

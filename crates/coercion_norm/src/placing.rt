@@ -1,6 +1,6 @@
 // Types and coercions as objects that stand before the code.
 
-ghost use Rattle.std.specs.Prelude.{◌≡◌, ◌<◌, ◌≤◌, ◌%◌, ◌^◌, ◌∷◌, [], All, IfOk, Some, cond, length};
+ghost use Rattle.std.specs.Prelude.{◌≡◌, ◌<◌, ◌≤◌, ◌%◌, ◌^◌, ◌∷◌, [], All, IfOk, OnOk, Some, cond, length};
 ghost use Rattle.std.specs.Prelude.{map, slice_get, slice_index};
 ghost use Rattle.grift_base.specs.Types.{parts_of};
 ghost use Rattle.type_graph.specs.Rows.{places_of, row_of};
@@ -10,6 +10,8 @@ ghost use Rattle.coercion_norm.specs.Coercions.{is_id};
 ghost use Rattle.coercion_norm.specs.CoercionTables.{FitsTypes};
 ghost use Rattle.coercion_norm.specs.Heights.{coercion_height};
 ghost use Rattle.coercion_norm.specs.Nodes.{Node, coercion_places, node_of, node_parts, tree_of};
+ghost use Rattle.coercion_norm.specs.Objects.{words_of_all};
+ghost use Rattle.coercion_norm.specs.ObjectsOfRows.{type_objects};
 ghost use Rattle.coercion_norm.specs.Placed.{ArePlaced, ArePlacedTypes, AreTypeAddresses, SayCoercions, SayTypes};
 ghost use Rattle.coercion_norm.specs.Statics.{AreStatics};
 ghost use Rattle.coercion_norm.specs.StaticObjects.{header, node_object, type_kind, type_object, words_at};
@@ -67,12 +69,29 @@ fn place_types(
     ensures placed { IfOk result (λ type_at. ArePlacedTypes types.now start words.new type_at) }
     ensures said { IfOk result (λ type_at. SayTypes types.now start words.new type_at) }
 {
+    types.len();
     let type_at = addresses_of_types(alloc, types, start)?;
+    write_types(alloc, words, types, type_at.as_slice())?;
+    Ok(type_at)
+}
+
+// Writes the objects of all types, where the addresses of all types are told.
+fn write_types(
+    alloc: Global,
+    words: &mut WordList,
+    types: &TypeTable,
+    type_at: &[u64],
+) -> Result<(), OutOfMemory>
+    requires empty { words.old ≡ [] }
+    requires told { length type_at.now ≡ length types.now }
+    ensures { OnOk result (words.new
+        ≡ words_of_all (type_objects types.now (λ type. slice_index type_at.now type) (length types.now))) }
+{
     for t in 0..types.len() {
-        let object = object_of_type(alloc, types, type_at.as_slice(), TypeId(t))?;
+        let object = object_of_type(alloc, types, type_at, TypeId(t))?;
         words.extend(object.as_slice())?;
     }
-    Ok(type_at)
+    Ok(())
 }
 
 // The address of each type: its object begins behind those of the types before it.

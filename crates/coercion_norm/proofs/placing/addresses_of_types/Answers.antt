@@ -1,4 +1,4 @@
-use Rattle.std.proofs.Common.{◌≡◌, ℕ, ◌+◌, ◌*◌, ◌<◌, ◌≤◌, suc, List, [], ◌∷◌, ◌++◌, length, ap, ◌∙◌, sym, subst, arith}
+use Rattle.std.proofs.Common.{◌≡◌, ◌+◌, ◌*◌, suc, [], ◌∷◌, ◌++◌, length, ap, ◌∙◌, sym, subst, arith}
 use Rattle.grift_base.specs.Types.{parts_of}
 use Rattle.type_graph.specs.Rows.{row_of}
 use Rattle.coercion_norm.specs.Coercions.{rows_of}
