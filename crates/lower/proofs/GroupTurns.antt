@@ -9,6 +9,8 @@ use Rattle.lower.specs.declared.steps.Step.TheVariants.{Compute as ComputeStep, 
 use Rattle.lower.specs.Numbering.{local_word, operand_word, test_word, function_offset}
 use Rattle.lower.specs.Emit.{header, name_others, store_others, store_far}
 use Rattle.lower.specs.Steps.{put, ahead, Adds}
+use Rattle.object_layout.specs.Kinds.{kind_number}
+use Rattle.object_layout.specs.declared.kinds.Kind.TheVariants.{Closure}
 
 -- a function more has its local name
 pub name_more : (s : Shape) (slot captured place left less next word first offset level : ℕ) (a b start : List Step)
