@@ -1,196 +1,378 @@
 // Terms, and what their runs have come to after some steps.
 
+use crate::rows::{Row, each_holds};
 use crate::samples::{
     BOOL, DYN, DYN_TO_INT, F, INT, INT_TO_INT, P, PAIR, PAIR_OF_DYN, Q, REF_DYN, REF_INT, VECT_DYN,
-    VECT_INT, X, answer, boxed, call_f, cast, group_of_one, int, let_one, one, prim, ran, three,
-    two,
+    VECT_INT, X, comes_to,
 };
+use crate::terms::{Part, term_of};
 use core_calc::ends::Stepped;
-use core_calc::terms::{Core, CoreList, Value, VarIds};
-use grift_base::lists::OutOfMemory;
 use grift_base::operators::PrimOp;
-use grift_base::verdicts::{AnswerKind, Trap};
+use grift_base::places::LabelId;
+use grift_base::verdicts::{Answer, AnswerKind, Trap};
 use std::alloc::Global;
-use std::test::Fail;
 
-// A term, a number of steps, and what stands then.
-#[derive(Drop)]
-struct Row {
-    core: Core,
-    steps: u64,
-    wanted: Stepped,
+// What a run has come to.
+#[derive(Clone, Copy)]
+enum End {
+    More,
+    Int(i64),
+    Answer(AnswerKind, i64),
+    Blame(LabelId),
+    Trap(Trap),
 }
 
-fn push(rows: &mut Vec<Row>, core: Core, steps: u64, wanted: Stepped) -> Result<(), OutOfMemory> {
-    rows.push(Row {
-        core,
-        steps,
-        wanted,
-    })?;
-    Ok(())
+impl End {
+    fn stepped(self) -> Stepped {
+        match self {
+            End::More => Stepped::More,
+            End::Int(word) => Stepped::Answer(Answer {
+                kind: AnswerKind::Int,
+                word,
+            }),
+            End::Answer(kind, word) => Stepped::Answer(Answer { kind, word }),
+            End::Blame(label) => Stepped::Blame(label),
+            End::Trap(trap) => Stepped::Trap(trap),
+        }
+    }
+}
+
+// The parts of a term, a number of steps, and what stands then.
+struct Run(&'static [Part], u64, End);
+
+impl Row for Run {
+    fn holds(&self, alloc: Global) -> bool {
+        match term_of(alloc, self.0) {
+            Some(core) => comes_to(alloc, &core, self.1, self.2.stepped()),
+            None => false,
+        }
+    }
 }
 
 // Values take no step. A sum takes one.
-fn sums(alloc: Global, rows: &mut Vec<Row>) -> Result<(), OutOfMemory> {
-    push(rows, Core::Int(42), 0, int(42))?;
-    push(rows, Core::Bool(true), 0, answer(AnswerKind::Bool, 1))?;
-    push(rows, Core::Unit, 3, answer(AnswerKind::Unit, 0))?;
-    push(
-        rows,
-        Core::Value(Value::Loc(0, true)),
+const SUMS: &[Run] = &[
+    Run(&[Part::Int(42)], 0, End::Int(42)),
+    Run(&[Part::Bool(true)], 0, End::Answer(AnswerKind::Bool, 1)),
+    Run(&[Part::Unit], 3, End::Answer(AnswerKind::Unit, 0)),
+    Run(&[Part::Vector(0)], 0, End::Answer(AnswerKind::Vector, 0)),
+    Run(
+        &[Part::Int(1), Part::Int(2), Part::Prim(PrimOp::Add, 2)],
         0,
-        answer(AnswerKind::Vector, 0),
-    )?;
-    for (steps, wanted) in [(0, Stepped::More), (1, int(3))] {
-        let sum = prim(alloc, PrimOp::Add, Core::Int(1), Core::Int(2))?;
-        push(rows, sum, steps, wanted)?;
-    }
-    for (op, a, b, wanted) in [
-        (PrimOp::Quot, 1, 0, Stepped::Trap(Trap::ZeroDivisor)),
-        (PrimOp::Quot, i64::MIN, -1, int(i64::MIN)),
-        (PrimOp::Rem, -7, 2, int(-1)),
-        (PrimOp::Lt, 1, 2, answer(AnswerKind::Bool, 1)),
-    ] {
-        let whole = prim(alloc, op, Core::Int(a), Core::Int(b))?;
-        push(rows, whole, 1, wanted)?;
-    }
-    Ok(())
-}
+        End::More,
+    ),
+    Run(
+        &[Part::Int(1), Part::Int(2), Part::Prim(PrimOp::Add, 2)],
+        1,
+        End::Int(3),
+    ),
+    Run(
+        &[Part::Int(1), Part::Int(0), Part::Prim(PrimOp::Quot, 2)],
+        1,
+        End::Trap(Trap::ZeroDivisor),
+    ),
+    Run(
+        &[
+            Part::Int(i64::MIN),
+            Part::Int(-1),
+            Part::Prim(PrimOp::Quot, 2),
+        ],
+        1,
+        End::Int(i64::MIN),
+    ),
+    Run(
+        &[Part::Int(-7), Part::Int(2), Part::Prim(PrimOp::Rem, 2)],
+        1,
+        End::Int(-1),
+    ),
+    Run(
+        &[Part::Int(1), Part::Int(2), Part::Prim(PrimOp::Lt, 2)],
+        1,
+        End::Answer(AnswerKind::Bool, 1),
+    ),
+];
 
 // A choice, a sequence, a function, and names that are bound again.
-fn forms(alloc: Global, rows: &mut Vec<Row>) -> Result<(), OutOfMemory> {
-    for (condition, wanted) in [(true, 1), (false, 2)] {
-        let on_true = boxed(alloc, Core::Int(1))?;
-        let on_false = boxed(alloc, Core::Int(2))?;
-        let whole = Core::If(boxed(alloc, Core::Bool(condition))?, on_true, on_false);
-        push(rows, whole, 1, int(wanted))?;
-    }
-    let sequence = Core::Seq(two(alloc, Core::Unit, Core::Int(5))?);
-    push(rows, sequence, 2, int(5))?;
-    let params = VarIds::from_slice(alloc, &[X])?;
-    let identity = Core::Lambda(params, boxed(alloc, Core::Var(X))?, INT_TO_INT);
-    push(rows, identity, 1, answer(AnswerKind::Function, 0))?;
-    let again = let_one(alloc, X, Core::Int(2), Core::Var(X))?;
-    let whole = let_one(alloc, X, Core::Int(1), again)?;
-    push(rows, whole, 2, int(2))?;
-    let hidden = let_one(alloc, F, Core::Int(3), Core::Var(F))?;
-    let whole = group_of_one(alloc, F, Core::Var(X), hidden)?;
-    push(rows, whole, 2, int(3))?;
-    let call = call_f(alloc, Core::Int(4))?;
-    let inner = group_of_one(alloc, F, Core::Var(X), call)?;
-    let whole = let_one(alloc, F, Core::Int(1), inner)?;
-    push(rows, whole, 4, int(4))
-}
+const FORMS: &[Run] = &[
+    Run(
+        &[Part::Bool(true), Part::Int(1), Part::Int(2), Part::If],
+        1,
+        End::Int(1),
+    ),
+    Run(
+        &[Part::Bool(false), Part::Int(1), Part::Int(2), Part::If],
+        1,
+        End::Int(2),
+    ),
+    Run(&[Part::Unit, Part::Int(5), Part::Seq(2)], 2, End::Int(5)),
+    Run(
+        &[Part::Var(X), Part::Lambda],
+        1,
+        End::Answer(AnswerKind::Function, 0),
+    ),
+    Run(
+        &[
+            Part::Int(1),
+            Part::Int(2),
+            Part::Var(X),
+            Part::Let(X),
+            Part::Let(X),
+        ],
+        2,
+        End::Int(2),
+    ),
+    Run(
+        &[
+            Part::Var(X),
+            Part::Int(3),
+            Part::Var(F),
+            Part::Let(F),
+            Part::Group(F),
+        ],
+        2,
+        End::Int(3),
+    ),
+    Run(
+        &[
+            Part::Int(1),
+            Part::Var(X),
+            Part::Var(F),
+            Part::Int(4),
+            Part::Call,
+            Part::Group(F),
+            Part::Let(F),
+        ],
+        4,
+        End::Int(4),
+    ),
+];
+
+// A truth value that is cast into Dyn and out of it to Int.
+const CAST_TWICE: &[Part] = &[
+    Part::Bool(true),
+    Part::Cast(BOOL, DYN, Q),
+    Part::Cast(DYN, INT, P),
+];
 
 // The cast in takes a step, the cast out two.
-fn casts(alloc: Global, rows: &mut Vec<Row>) -> Result<(), OutOfMemory> {
-    for (steps, wanted) in [
-        (2, Stepped::More),
-        (3, Stepped::Blame(P)),
-        (9, Stepped::Blame(P)),
-    ] {
-        let inner = cast(alloc, Core::Bool(true), BOOL, DYN, Q)?;
-        let outer = cast(alloc, inner, DYN, INT, P)?;
-        push(rows, outer, steps, wanted)?;
-    }
-    Ok(())
-}
-
-// What goes into Dyn: a truth value, or this integer.
-fn sent(alloc: Global, is_bool: bool, n: i64) -> Result<Core, OutOfMemory> {
-    if is_bool {
-        cast(alloc, Core::Bool(true), BOOL, DYN, P)
-    } else {
-        cast(alloc, Core::Int(n), INT, DYN, P)
-    }
-}
+const CASTS: &[Run] = &[
+    Run(CAST_TWICE, 2, End::More),
+    Run(CAST_TWICE, 3, End::Blame(P)),
+    Run(CAST_TWICE, 9, End::Blame(P)),
+];
 
 // A function that is wrapped, and called with a value that its type has or has not.
-fn wrapped_functions(alloc: Global, rows: &mut Vec<Row>) -> Result<(), OutOfMemory> {
-    for (is_bool, wanted) in [(true, Stepped::Blame(Q)), (false, int(5))] {
-        let params = VarIds::from_slice(alloc, &[X])?;
-        let identity = Core::Lambda(params, boxed(alloc, Core::Var(X))?, INT_TO_INT);
-        let wrapped = cast(alloc, identity, INT_TO_INT, DYN_TO_INT, Q)?;
-        let argument = sent(alloc, is_bool, 5)?;
-        let call = call_f(alloc, argument)?;
-        let whole = let_one(alloc, F, wrapped, call)?;
-        push(rows, whole, 100, wanted)?;
-    }
-    Ok(())
-}
+const WRAPPED_FUNCTIONS: &[Run] = &[
+    Run(
+        &[
+            Part::Var(X),
+            Part::Lambda,
+            Part::Cast(INT_TO_INT, DYN_TO_INT, Q),
+            Part::Var(F),
+            Part::Bool(true),
+            Part::Cast(BOOL, DYN, P),
+            Part::Call,
+            Part::Let(F),
+        ],
+        100,
+        End::Blame(Q),
+    ),
+    Run(
+        &[
+            Part::Var(X),
+            Part::Lambda,
+            Part::Cast(INT_TO_INT, DYN_TO_INT, Q),
+            Part::Var(F),
+            Part::Int(5),
+            Part::Cast(INT, DYN, P),
+            Part::Call,
+            Part::Let(F),
+        ],
+        100,
+        End::Int(5),
+    ),
+];
 
 // A box that is seen through a wrapper: what is written is cast, and stands in the box then.
-fn boxes(alloc: Global, rows: &mut Vec<Row>) -> Result<(), OutOfMemory> {
-    for (is_bool, wanted) in [(true, Stepped::Blame(Q)), (false, int(7))] {
-        let written = sent(alloc, is_bool, 7)?;
-        let seen = cast(alloc, Core::Var(F), REF_INT, REF_DYN, Q)?;
-        let set = prim(alloc, PrimOp::BoxSet, Core::Var(X), written)?;
-        let get = Core::Prim(PrimOp::Unbox, one(alloc, Core::Var(F))?);
-        let body = Core::Seq(two(alloc, set, get)?);
-        let inner = let_one(alloc, X, seen, body)?;
-        let made = Core::Prim(PrimOp::MakeBox, one(alloc, Core::Int(1))?);
-        let whole = let_one(alloc, F, made, inner)?;
-        push(rows, whole, 100, wanted)?;
-    }
-    Ok(())
-}
+const BOXES: &[Run] = &[
+    Run(
+        &[
+            Part::Int(1),
+            Part::Prim(PrimOp::MakeBox, 1),
+            Part::Var(F),
+            Part::Cast(REF_INT, REF_DYN, Q),
+            Part::Var(X),
+            Part::Bool(true),
+            Part::Cast(BOOL, DYN, P),
+            Part::Prim(PrimOp::BoxSet, 2),
+            Part::Var(F),
+            Part::Prim(PrimOp::Unbox, 1),
+            Part::Seq(2),
+            Part::Let(X),
+            Part::Let(F),
+        ],
+        100,
+        End::Blame(Q),
+    ),
+    Run(
+        &[
+            Part::Int(1),
+            Part::Prim(PrimOp::MakeBox, 1),
+            Part::Var(F),
+            Part::Cast(REF_INT, REF_DYN, Q),
+            Part::Var(X),
+            Part::Int(7),
+            Part::Cast(INT, DYN, P),
+            Part::Prim(PrimOp::BoxSet, 2),
+            Part::Var(F),
+            Part::Prim(PrimOp::Unbox, 1),
+            Part::Seq(2),
+            Part::Let(X),
+            Part::Let(F),
+        ],
+        100,
+        End::Int(7),
+    ),
+];
 
-fn vectors(alloc: Global, rows: &mut Vec<Row>) -> Result<(), OutOfMemory> {
-    for (index, wanted) in [
-        (3, Stepped::Trap(Trap::Index)),
-        (-1, Stepped::Trap(Trap::Index)),
-        (2, int(9)),
-    ] {
-        let made = prim(alloc, PrimOp::MakeVector, Core::Int(3), Core::Int(9))?;
-        let read = prim(alloc, PrimOp::VectorRef, made, Core::Int(index))?;
-        push(rows, read, 2, wanted)?;
-    }
-    let made = prim(alloc, PrimOp::MakeVector, Core::Int(-1), Core::Int(0))?;
-    push(rows, made, 1, Stepped::Trap(Trap::Length))?;
-    // The index is tested before the written value is cast.
-    for (index, wanted) in [(0, Stepped::Blame(Q)), (3, Stepped::Trap(Trap::Index))] {
-        let made = prim(alloc, PrimOp::MakeVector, Core::Int(3), Core::Int(1))?;
-        let seen = cast(alloc, made, VECT_INT, VECT_DYN, Q)?;
-        let written = sent(alloc, true, 0)?;
-        let operands = three(alloc, Core::Var(X), Core::Int(index), written)?;
-        let whole = let_one(alloc, X, seen, Core::Prim(PrimOp::VectorSet, operands))?;
-        push(rows, whole, 100, wanted)?;
-    }
-    Ok(())
-}
+// Reads of a vector of three 9s, and vectors that are seen through a wrapper: the index is tested before the written
+// value is cast.
+const VECTORS: &[Run] = &[
+    Run(
+        &[
+            Part::Int(3),
+            Part::Int(9),
+            Part::Prim(PrimOp::MakeVector, 2),
+            Part::Int(3),
+            Part::Prim(PrimOp::VectorRef, 2),
+        ],
+        2,
+        End::Trap(Trap::Index),
+    ),
+    Run(
+        &[
+            Part::Int(3),
+            Part::Int(9),
+            Part::Prim(PrimOp::MakeVector, 2),
+            Part::Int(-1),
+            Part::Prim(PrimOp::VectorRef, 2),
+        ],
+        2,
+        End::Trap(Trap::Index),
+    ),
+    Run(
+        &[
+            Part::Int(3),
+            Part::Int(9),
+            Part::Prim(PrimOp::MakeVector, 2),
+            Part::Int(2),
+            Part::Prim(PrimOp::VectorRef, 2),
+        ],
+        2,
+        End::Int(9),
+    ),
+    Run(
+        &[
+            Part::Int(-1),
+            Part::Int(0),
+            Part::Prim(PrimOp::MakeVector, 2),
+        ],
+        1,
+        End::Trap(Trap::Length),
+    ),
+    Run(
+        &[
+            Part::Int(3),
+            Part::Int(1),
+            Part::Prim(PrimOp::MakeVector, 2),
+            Part::Cast(VECT_INT, VECT_DYN, Q),
+            Part::Var(X),
+            Part::Int(0),
+            Part::Bool(true),
+            Part::Cast(BOOL, DYN, P),
+            Part::Prim(PrimOp::VectorSet, 3),
+            Part::Let(X),
+        ],
+        100,
+        End::Blame(Q),
+    ),
+    Run(
+        &[
+            Part::Int(3),
+            Part::Int(1),
+            Part::Prim(PrimOp::MakeVector, 2),
+            Part::Cast(VECT_INT, VECT_DYN, Q),
+            Part::Var(X),
+            Part::Int(3),
+            Part::Bool(true),
+            Part::Cast(BOOL, DYN, P),
+            Part::Prim(PrimOp::VectorSet, 3),
+            Part::Let(X),
+        ],
+        100,
+        End::Trap(Trap::Index),
+    ),
+];
 
-// Parts of a pair: bare, through a wrapper, and of Dyn.
-fn parts(alloc: Global, rows: &mut Vec<Row>) -> Result<(), OutOfMemory> {
-    let pair = Core::Tuple(two(alloc, Core::Int(1), Core::Bool(true))?);
-    push(rows, pair, 1, answer(AnswerKind::Tuple, 0))?;
-    let pair = Core::Tuple(two(alloc, Core::Int(1), Core::Bool(true))?);
-    push(rows, Core::Proj(boxed(alloc, pair)?, 0), 2, int(1))?;
-    let pair = Core::Tuple(two(alloc, Core::Int(1), Core::Bool(true))?);
-    let seen = cast(alloc, pair, PAIR, PAIR_OF_DYN, Q)?;
-    let part = Core::Proj(boxed(alloc, seen)?, 1);
-    push(rows, part, 5, answer(AnswerKind::Bool, 1))?;
-    for (k, wanted) in [(0, int(1)), (2, Stepped::Blame(Q))] {
-        let pair = Core::Tuple(two(alloc, Core::Int(1), Core::Bool(true))?);
-        let whole = cast(alloc, pair, PAIR, DYN, P)?;
-        let part = Core::ProjDyn(boxed(alloc, whole)?, k, Q);
-        push(rows, part, 100, wanted)?;
-    }
-    push(rows, Core::Seq(CoreList::new()), 1, Stepped::More)
-}
+// Parts of a pair: bare, through a wrapper, and of Dyn. A sequence of no term does not go on.
+const PARTS: &[Run] = &[
+    Run(
+        &[Part::Int(1), Part::Bool(true), Part::Tuple(2)],
+        1,
+        End::Answer(AnswerKind::Tuple, 0),
+    ),
+    Run(
+        &[
+            Part::Int(1),
+            Part::Bool(true),
+            Part::Tuple(2),
+            Part::Proj(0),
+        ],
+        2,
+        End::Int(1),
+    ),
+    Run(
+        &[
+            Part::Int(1),
+            Part::Bool(true),
+            Part::Tuple(2),
+            Part::Cast(PAIR, PAIR_OF_DYN, Q),
+            Part::Proj(1),
+        ],
+        5,
+        End::Answer(AnswerKind::Bool, 1),
+    ),
+    Run(
+        &[
+            Part::Int(1),
+            Part::Bool(true),
+            Part::Tuple(2),
+            Part::Cast(PAIR, DYN, P),
+            Part::ProjDyn(0, Q),
+        ],
+        100,
+        End::Int(1),
+    ),
+    Run(
+        &[
+            Part::Int(1),
+            Part::Bool(true),
+            Part::Tuple(2),
+            Part::Cast(PAIR, DYN, P),
+            Part::ProjDyn(2, Q),
+        ],
+        100,
+        End::Blame(Q),
+    ),
+    Run(&[Part::Seq(0)], 1, End::More),
+];
 
 #[test]
-fn runs_come_to_their_ends(rt: HostRuntime) -> Result<(), Fail> {
-    let alloc = rt.alloc();
-    let mut rows = Vec::new(alloc);
-    sums(alloc, &mut rows)?;
-    forms(alloc, &mut rows)?;
-    casts(alloc, &mut rows)?;
-    wrapped_functions(alloc, &mut rows)?;
-    boxes(alloc, &mut rows)?;
-    vectors(alloc, &mut rows)?;
-    parts(alloc, &mut rows)?;
-    for (place, row) in rows.iter().enumerate() {
-        assert!(rt; ran(alloc, &row.core, row.steps)? == row.wanted, "{place}");
-    }
-    Ok(())
+fn runs_come_to_their_ends(rt: HostRuntime) {
+    each_holds(&rt, rt.alloc(), SUMS);
+    each_holds(&rt, rt.alloc(), FORMS);
+    each_holds(&rt, rt.alloc(), CASTS);
+    each_holds(&rt, rt.alloc(), WRAPPED_FUNCTIONS);
+    each_holds(&rt, rt.alloc(), BOXES);
+    each_holds(&rt, rt.alloc(), VECTORS);
+    each_holds(&rt, rt.alloc(), PARTS);
 }

@@ -5,6 +5,10 @@
 #[cfg(test)]
 mod ends;
 #[cfg(test)]
+mod rows;
+#[cfg(test)]
 mod samples;
+#[cfg(test)]
+mod terms;
 #[cfg(test)]
 mod walks;

@@ -1,16 +1,11 @@
-// Types and terms that several tests make.
+// Types that several tests name, and runs of terms.
 
 use calc_stepper::runs::{run, start};
 use core_calc::ends::Stepped;
-use core_calc::terms::{
-    Core, CoreBinding, CoreBindings, CoreList, GroupMember, GroupMembers, VarId, VarIds,
-};
-use grift_base::lists::{Bytes, OutOfMemory};
-use grift_base::operators::PrimOp;
+use core_calc::terms::{Core, VarId};
+use grift_base::lists::Bytes;
 use grift_base::places::{LabelId, TypeId};
-use grift_base::verdicts::{Answer, AnswerKind};
 use std::alloc::Global;
-use std::test::Fail;
 use type_graph::rows::{Row, TypeIds};
 use type_graph::tables::TypeTable;
 
@@ -44,140 +39,81 @@ pub(crate) const X: VarId = VarId(0);
 
 pub(crate) const F: VarId = VarId(1);
 
-// Puts a row into a table that it fits.
-fn put(types: &mut TypeTable, row: Row) -> Result<TypeId, Fail> {
+// Puts a row into a table. None where it does not fit, or no memory is left.
+fn put(types: &mut TypeTable, row: Row) -> Option<()> {
     if !types.fits(&row) {
-        return Err(Fail::from("the row does not fit"));
+        return None;
     }
-    Ok(types.intern(row)?)
+    types.intern(row).ok()?;
+    Some(())
 }
 
-// The types that the tests name by their places.
-fn sample_types(alloc: Global) -> Result<TypeTable, Fail> {
-    let mut types = TypeTable::new(alloc)?;
-    for row in [Row::Int, Row::Bool, Row::Dyn] {
-        put(&mut types, row)?;
-    }
-    for parameter in [INT, DYN] {
-        let parameters = TypeIds::from_slice(alloc, &[parameter])?;
-        put(&mut types, Row::Fun(parameters, INT))?;
-    }
-    for row in [Row::Ref(INT), Row::Ref(DYN), Row::Vect(INT), Row::Vect(DYN)] {
-        put(&mut types, row)?;
-    }
-    for (first, second) in [(INT, BOOL), (DYN, DYN)] {
-        let parts = TypeIds::from_slice(alloc, &[first, second])?;
-        put(&mut types, Row::Tuple(parts))?;
-    }
-    Ok(types)
+// Puts the type of functions from this type to Int.
+fn put_function(alloc: Global, types: &mut TypeTable, from: TypeId) -> Option<()> {
+    let parameters = TypeIds::from_slice(alloc, &[from]).ok()?;
+    put(types, Row::Fun(parameters, INT))
 }
 
-// What a run of a term has come to after so many steps.
-pub(crate) fn ran(alloc: Global, core: &Core, steps: u64) -> Result<Stepped, Fail> {
-    let types = sample_types(alloc)?;
-    let mut state = start(alloc, core, Bytes::new(alloc))?;
-    Ok(run(alloc, &mut state, &types, steps)?)
+// Puts the type of pairs of these types.
+fn put_pair(alloc: Global, types: &mut TypeTable, first: TypeId, second: TypeId) -> Option<()> {
+    let parts = TypeIds::from_slice(alloc, &[first, second]).ok()?;
+    put(types, Row::Tuple(parts))
 }
 
-// What a run of a term prints in so many steps, with this input.
-pub(crate) fn printed(alloc: Global, core: &Core, input: &[u8], steps: u64) -> Result<Bytes, Fail> {
-    let types = sample_types(alloc)?;
-    let mut state = start(alloc, core, Bytes::from_slice(alloc, input)?)?;
-    run(alloc, &mut state, &types, steps)?;
-    Ok(Bytes::from_slice(alloc, state.world.output.as_slice())?)
+// Puts the types that the tests name by their places.
+fn put_types(alloc: Global, types: &mut TypeTable) -> Option<()> {
+    put(types, Row::Int)?;
+    put(types, Row::Bool)?;
+    put(types, Row::Dyn)?;
+    put_function(alloc, types, INT)?;
+    put_function(alloc, types, DYN)?;
+    put(types, Row::Ref(INT))?;
+    put(types, Row::Ref(DYN))?;
+    put(types, Row::Vect(INT))?;
+    put(types, Row::Vect(DYN))?;
+    put_pair(alloc, types, INT, BOOL)?;
+    put_pair(alloc, types, DYN, DYN)
 }
 
-pub(crate) fn answer(kind: AnswerKind, word: i64) -> Stepped {
-    Stepped::Answer(Answer { kind, word })
-}
-
-pub(crate) fn int(n: i64) -> Stepped {
-    answer(AnswerKind::Int, n)
-}
-
-pub(crate) fn boxed(alloc: Global, term: Core) -> Result<Box<Core>, OutOfMemory> {
-    Ok(Box::new(alloc, term)?)
-}
-
-pub(crate) fn one(alloc: Global, first: Core) -> Result<CoreList, OutOfMemory> {
-    let mut terms = CoreList::new();
-    terms.push_front(alloc, first)?;
-    Ok(terms)
-}
-
-pub(crate) fn two(alloc: Global, first: Core, second: Core) -> Result<CoreList, OutOfMemory> {
-    let mut terms = one(alloc, second)?;
-    terms.push_front(alloc, first)?;
-    Ok(terms)
-}
-
-pub(crate) fn three(
+// What a run of a term has come to after so many steps, and what it has printed.
+fn ran_over(
     alloc: Global,
-    first: Core,
-    second: Core,
-    third: Core,
-) -> Result<CoreList, OutOfMemory> {
-    let mut terms = two(alloc, second, third)?;
-    terms.push_front(alloc, first)?;
-    Ok(terms)
+    types: &TypeTable,
+    core: &Core,
+    input: Bytes,
+    steps: u64,
+) -> Option<(Stepped, Bytes)> {
+    let mut state = start(alloc, core, input).ok()?;
+    let stepped = run(alloc, &mut state, types, steps).ok()?;
+    let output = Bytes::from_slice(alloc, state.world.output.as_slice()).ok()?;
+    Some((stepped, output))
 }
 
-pub(crate) fn cast(
+// The same over the types of the tests.
+pub(crate) fn ran(
     alloc: Global,
-    term: Core,
-    from: TypeId,
-    to: TypeId,
-    label: LabelId,
-) -> Result<Core, OutOfMemory> {
-    Ok(Core::Cast(boxed(alloc, term)?, from, to, label))
+    core: &Core,
+    input: &[u8],
+    steps: u64,
+) -> Option<(Stepped, Bytes)> {
+    let mut types = TypeTable::new(alloc).ok()?;
+    put_types(alloc, &mut types)?;
+    let input = Bytes::from_slice(alloc, input).ok()?;
+    ran_over(alloc, &types, core, input, steps)
 }
 
-pub(crate) fn prim(alloc: Global, op: PrimOp, a: Core, b: Core) -> Result<Core, OutOfMemory> {
-    Ok(Core::Prim(op, two(alloc, a, b)?))
+// Whether a run of a term comes to this in so many steps.
+pub(crate) fn comes_to(alloc: Global, core: &Core, steps: u64, wanted: Stepped) -> bool {
+    match ran(alloc, core, b"", steps) {
+        Some((stepped, _output)) => stepped == wanted,
+        None => false,
+    }
 }
 
-pub(crate) fn let_one(
-    alloc: Global,
-    name: VarId,
-    value: Core,
-    body: Core,
-) -> Result<Core, OutOfMemory> {
-    let mut bindings = CoreBindings::new();
-    bindings.push_front(alloc, CoreBinding { name, value })?;
-    Ok(Core::Let(bindings, boxed(alloc, body)?))
-}
-
-// A group of one function of one parameter, X, and a body.
-pub(crate) fn group_of_one(
-    alloc: Global,
-    name: VarId,
-    inner: Core,
-    body: Core,
-) -> Result<Core, OutOfMemory> {
-    let member = GroupMember {
-        name,
-        params: VarIds::from_slice(alloc, &[X])?,
-        body: inner,
-        ty: INT_TO_INT,
-    };
-    let mut members = GroupMembers::new();
-    members.push_front(alloc, member)?;
-    Ok(Core::Group(members, boxed(alloc, body)?))
-}
-
-// A call of F with one argument.
-pub(crate) fn call_f(alloc: Global, argument: Core) -> Result<Core, OutOfMemory> {
-    Ok(Core::Call(boxed(alloc, Core::Var(F))?, one(alloc, argument)?))
-}
-
-// A function F that calls itself with less by one, down to 0, where it answers 7; its body is a call with n. It takes
-// five steps for each call but the last, which takes four, and one for the group.
-pub(crate) fn counting(alloc: Global, n: i64) -> Result<Core, OutOfMemory> {
-    let test = prim(alloc, PrimOp::Eq, Core::Var(X), Core::Int(0))?;
-    let less = prim(alloc, PrimOp::Sub, Core::Var(X), Core::Int(1))?;
-    let again = call_f(alloc, less)?;
-    let seven = boxed(alloc, Core::Int(7))?;
-    let inner = Core::If(boxed(alloc, test)?, seven, boxed(alloc, again)?);
-    let body = call_f(alloc, Core::Int(n))?;
-    group_of_one(alloc, F, inner, body)
+// Whether it prints this in so many steps, with this input.
+pub(crate) fn prints(alloc: Global, core: &Core, input: &[u8], steps: u64, wanted: &[u8]) -> bool {
+    match ran(alloc, core, input, steps) {
+        Some((_stepped, output)) => output.as_slice() == wanted,
+        None => false,
+    }
 }
