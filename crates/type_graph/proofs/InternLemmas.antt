@@ -4,7 +4,7 @@ use Rattle.std.proofs.Common.{[], ◌∷◌, ◌++◌, length, Option, Some, Non
 use Rattle.std.proofs.Common.{length-append, append-nil, slice_get}
 use Rattle.std.specs.Prelude.{option_map, All, Contains}
 use Rattle.std.proofs.lemmas.List.Elements.{All-head, All-tail, All-weaker}
-use Rattle.std.proofs.lemmas.Option.{slice_get_within, slice_get-get_or, get_or_from_slice_get}
+use Rattle.std.proofs.lemmas.Option.{slice_get_within, slice_get-get_or}
 use Rattle.grift_base.specs.Tables.{HasNoRepeats, Interns}
 use Rattle.grift_base.specs.Types.{TypeRow, TypeRows, row_at, parts_of}
 use Rattle.type_graph.specs.Forming.{equal_rows, place_where, at_place_or_last, intern}
@@ -15,7 +15,8 @@ use Rattle.type_graph.specs.TypeTables.{HasMoreRows}
 use Rattle.type_graph.specs.declared.tables.Measure.{Measure}
 use Rattle.type_graph.specs.declared.tables.TheConstants.{MOST_HEIGHT, SIZE_SHOWN}
 use Rattle.grift_base.specs.declared.places.TheConstants.{MOST_ENTRIES}
-use Rattle.type_graph.proofs.Places.{none_is_not_some, same_some, get_last, get_before_or_last, HasNoRepeats-push}
+use Rattle.type_graph.proofs.Places.{none_is_not_some, same_some, contained, get_last, get_before_or_last}
+use Rattle.type_graph.proofs.Places.{HasNoRepeats-push}
 use Rattle.type_graph.proofs.RowLemmas.{rows_are_equal, row_is_itself}
 use Rattle.type_graph.proofs.TreeLemmas.{ends_by_parts, ends_deeper, ends_grown, size_by_parts, height_by_parts}
 use Rattle.type_graph.proofs.TreeLemmas.{size_grown, height_grown}
@@ -59,10 +60,6 @@ place_missing passes (x ∷ xs) e k a f p =
     missing_from passes x a xs (passes x) refl (place_where passes xs)
     (λ none j g. place_missing passes xs none j a g p)
     k e f p
-
--- a row that stands at a place is in the table
-pub contained : (types : TypeRows) (row : TypeRow) (k : ℕ) → row_at types k ≡ Some row → Contains types row
-contained types row k e = (k, slice_get_within types k row e, get_or_from_slice_get types k row row e)
 
 -- A row that is interned, and then stands at a place, has the place and the table that the definition gives.
 pub intern-from_Interns : (row : TypeRow) (old new : TypeRows) (place : ℕ) → HasNoRepeats old → Interns old row new →

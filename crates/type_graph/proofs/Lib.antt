@@ -2,8 +2,11 @@ mod Places
 mod RowLemmas
 mod TreeLemmas
 mod InternLemmas
+mod MapEntries
 mod EntryLemmas
 mod MeasureLemmas
 mod TextLemmas
+mod RowParts
+mod RelatedLists
 mod Examples
 pub mod Public

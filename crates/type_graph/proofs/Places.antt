@@ -1,7 +1,8 @@
 -- Places of lists.
 use Rattle.std.proofs.Common.{◌≡◌, ◌⊎◌, inl, inr, ℕ, zero, suc, ◌<◌, List, [], ◌∷◌, ◌++◌, length, Some, None}
-use Rattle.std.proofs.Common.{refl, sym, ap, ◌∙◌, arith, slice_get}
-use Rattle.std.proofs.lemmas.Option.{slice_get_within}
+use Rattle.std.proofs.Common.{refl, sym, ap, ◌∙◌, arith, map, slice_get}
+use Rattle.std.specs.Prelude.{Contains}
+use Rattle.std.proofs.lemmas.Option.{slice_get_within, get_or_from_slice_get}
 use Rattle.grift_base.specs.Tables.{HasNoRepeats}
 
 pub none_is_not_some : {A : Type 0} (a : A) → None ≡ Some a → ⊥
@@ -16,6 +17,10 @@ slice_get_at [] k within = absurd (omega arith)
 slice_get_at (x ∷ xs) zero within = (x, refl)
 slice_get_at (x ∷ xs) (suc k) within = slice_get_at xs k (omega arith)
 
+-- what stands at a place is there
+pub contained : {A : Type 0} (xs : List A) (x : A) (k : ℕ) → slice_get xs k ≡ Some x → Contains xs x
+contained xs x k e = (k, slice_get_within xs k x e, get_or_from_slice_get xs k x x e)
+
 -- what stands at a place stands there still when more is put behind
 pub get_kept : {A : Type 0} (xs ys : List A) (k : ℕ) (a : A) → slice_get xs k ≡ Some a → slice_get (xs ++ ys) k ≡ Some a
 get_kept [] ys k a e = absurd (none_is_not_some a e)
@@ -26,6 +31,19 @@ get_kept (x ∷ xs) ys (suc k) a e = get_kept xs ys k a e
 pub get_last : {A : Type 0} (xs : List A) (a : A) → slice_get (xs ++ a ∷ []) (length xs) ≡ Some a
 get_last [] a = refl
 get_last (x ∷ xs) a = get_last xs a
+
+-- where no two are seen as one, lists are seen as one only where they are one
+pub map-injective : {A B : Type 0} (f : A → B) → ((x y : A) → f x ≡ f y → x ≡ y) → (xs ys : List A) →
+    map f xs ≡ map f ys → xs ≡ ys
+map-injective f one [] [] e = refl
+map-injective f one [] (y ∷ ys) e = cc
+map-injective f one (x ∷ xs) [] e = cc
+map-injective f one (x ∷ xs) (y ∷ ys) e =
+    let head : f x ≡ f y = cc in
+    let tail : map f xs ≡ map f ys = cc in
+    let first = one x y head in
+    let rest = map-injective f one xs ys tail in
+    cc
 
 -- with one more at the end, a place is one from before or the last
 pub get_before_or_last : {A : Type 0} (xs : List A) (a b : A) (k : ℕ) → slice_get (xs ++ a ∷ []) k ≡ Some b →

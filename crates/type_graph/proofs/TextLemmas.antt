@@ -104,13 +104,23 @@ module _ (types : TypeRows) (finite : AreFinite types) (a : ℕ) (within : a < l
       ++ type_text types a
   tuple_written parts at = behind_row (TupleRow parts) at _ (simp append_assoc)
 
-  pub ref_written : (content : ℕ) → row_at types a ≡ Some (RefRow content) →
-      ((before ++ codes "(Ref ") ++ type_text types content) ++ codes ")" ≡ before ++ type_text types a
-  ref_written content at = behind_row (RefRow content) at _ (simp append_assoc)
+  closed : (opened text start : List ℕ) (content : ℕ) → opened ≡ before ++ start →
+      text ≡ opened ++ type_text types content →
+      text ++ codes ")" ≡ ((before ++ start) ++ type_text types content) ++ codes ")"
+  closed opened text start content e f =
+      ap (λ l. l ++ codes ")") (f ∙ ap (λ l. l ++ type_text types content) e)
 
-  pub vect_written : (content : ℕ) → row_at types a ≡ Some (VectRow content) →
-      ((before ++ codes "(Vect ") ++ type_text types content) ++ codes ")" ≡ before ++ type_text types a
-  vect_written content at = behind_row (VectRow content) at _ (simp append_assoc)
+  pub ref_written : (content : ℕ) → row_at types a ≡ Some (RefRow content) → (opened text : List ℕ) →
+      opened ≡ before ++ codes "(Ref " → text ≡ opened ++ type_text types content →
+      text ++ codes ")" ≡ before ++ type_text types a
+  ref_written content at opened text e f =
+      behind_row (RefRow content) at _ (closed opened text (codes "(Ref ") content e f ∙ simp append_assoc)
+
+  pub vect_written : (content : ℕ) → row_at types a ≡ Some (VectRow content) → (opened text : List ℕ) →
+      opened ≡ before ++ codes "(Vect " → text ≡ opened ++ type_text types content →
+      text ++ codes ")" ≡ before ++ type_text types a
+  vect_written content at opened text e f =
+      behind_row (VectRow content) at _ (closed opened text (codes "(Vect ") content e f ∙ simp append_assoc)
 
   pub leaf_written : (row : TypeRow) → row_at types a ≡ Some row →
       before ++ row_text (type_text types) (Some row) ≡ before ++ type_text types a

@@ -1,8 +1,8 @@
 use Rattle.std.proofs.Common.{inl, inr, refl, ap, ◌∙◌, ◌++◌, ◌∷◌, [], arith}
 use Rattle.grift_base.specs.Types.{row_at}
 use Rattle.type_graph.specs.Rows.{row_of}
-use Rattle.type_graph.proofs.Places.{get_last}
-use Rattle.type_graph.proofs.InternLemmas.{intern-from_Interns, contained}
+use Rattle.type_graph.proofs.Places.{contained, get_last}
+use Rattle.type_graph.proofs.InternLemmas.{intern-from_Interns}
 use Rattle.type_graph.proofs.EntryLemmas.{table_then, kept_then}
 use Rattle.type_graph.proofs.tables.TypeTable.intern.Goals as goal
 

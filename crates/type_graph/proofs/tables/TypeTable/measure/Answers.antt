@@ -1,11 +1,11 @@
 use Rattle.std.proofs.Common.{sym, ap, ◌∙◌}
 use Rattle.std.specs.Prelude.{option_map}
 use Rattle.std.specs.Map.Iter.{deref_pair}
-use Rattle.type_graph.proofs.EntryLemmas.{measure_of_entry}
+use Rattle.type_graph.proofs.MapEntries.{value_of_entry}
 use Rattle.type_graph.proofs.tables.TypeTable.measure.Goals as goal
 
 pub returns : goal.returns
 returns c =
     rw (← c.self.view_is) (c.self.invariant.measured c.args.t.0 c.unwrap.result.1.now
-    (measure_of_entry c.self.inside.rows.entries c.args.t.0 (deref_pair c.unwrap.result)
+    (value_of_entry c.self.inside.rows.entries c.args.t.0 (deref_pair c.unwrap.result)
     (sym c.get_index.ensures.entry ∙ ap (option_map deref_pair) c.unwrap.ensures)))
