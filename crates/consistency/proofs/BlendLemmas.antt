@@ -17,9 +17,9 @@ use Rattle.type_graph.specs.Forming.{Forming, formed, intern, place_where, at_pl
 use Rattle.type_graph.specs.Trees.{EndsWithin, AreFinite, related, height, above_all, row_parts}
 use Rattle.type_graph.specs.TypeTables.{HasMoreRows, MayBePart, HasWidth, FitsTable, IsOrderedTable}
 use Rattle.type_graph.specs.declared.tables.TheConstants.{MOST_HEIGHT}
-use Rattle.type_graph.proofs.Public.{none_is_not_some, same_some, get_kept, row_stays}
+use Rattle.type_graph.proofs.Public.{none_is_not_some, get_kept, row_stays}
 use Rattle.type_graph.proofs.Public.{later_within, parts_end, height_grown, height_by_parts, place_found}
-use Rattle.type_graph.proofs.Public.{place_missing, rows_are_equal, row_is_itself}
+use Rattle.type_graph.proofs.Public.{place_missing, rows_are_equal, row_is_itself, each_entry-insert}
 use Rattle.consistency.specs.declared.pairs.Pair.{Pair}
 use Rattle.std.specs.HashMap.{get}
 use Rattle.consistency.specs.contracts.pairs.PairPartialEq.TheImpl.{ghosts}
@@ -384,123 +384,151 @@ parts_no_higher types (pair ∷ pairs) (c ∷ cs) h =
 
 -- ---- the blend of two types of a table whose parts were blended
 
+-- two types of a table that aren't Dyn, with the pairs of their parts and the blends of these
+pub record HaveBlendedParts (types : TypeRows) (a b : ℕ) (row other : TypeRow) (pairs : List Pair) (cs : List TypeId) :
+    Type 0 where
+  pub at_a : row_at types a ≡ Some row
+  pub at_b : row_at types b ≡ Some other
+  pub row_plain : is_dyn row ≡ false
+  pub other_plain : is_dyn other ≡ false
+  pub heads : same_head row other ≡ true
+  pub left : firsts pairs ≡ parts_of row
+  pub right : seconds pairs ≡ parts_of other
+  pub each : EachFormed types pairs cs
+
+-- consistent types have them in the table into which the blends of their parts went
+pub have_blended_parts : (types middle : TypeRows) (a b : ℕ) (row other : TypeRow) (pairs : List Pair)
+    (cs : List TypeId) → AreFinite types → a < length types → row_at types a ≡ Some row → row_at types b ≡ Some other →
+    is_dyn row ≡ false → is_dyn other ≡ false → consistent types a b ≡ true → HasMoreRows types middle →
+    firsts pairs ≡ parts_of row → seconds pairs ≡ parts_of other → EachFormed middle pairs cs →
+    HaveBlendedParts middle a b row other pairs cs
+have_blended_parts types middle a b row other pairs cs finite within at_a at_b e f h grown left right each = record {
+  at_a = row_stays types middle a row grown at_a;
+  at_b = row_stays types middle b other grown at_b;
+  row_plain = e;
+  other_plain = f;
+  heads = (plain_consistent types a b row other finite within at_a at_b e f h).0;
+  left = left;
+  right = right;
+  each = each;
+}
+
 module _ (middle : TypeRows) (a b : ℕ) (row other : TypeRow) (pairs : List Pair) (cs : List TypeId)
-    (table : IsOrderedTable middle) (at_a : row_at middle a ≡ Some row) (at_b : row_at middle b ≡ Some other)
-    (row_plain : is_dyn row ≡ false) (other_plain : is_dyn other ≡ false) (heads : same_head row other ≡ true)
-    (left : firsts pairs ≡ parts_of row) (right : seconds pairs ≡ parts_of other) (each : EachFormed middle pairs cs)
-  where
-    abbrev both : TypeRow
-    both = with_parts row (places_of cs)
+    (table : IsOrderedTable middle) (known : HaveBlendedParts middle a b row other pairs cs) where
+  abbrev both : TypeRow
+  both = with_parts row (places_of cs)
 
-    as_many : length (places_of cs) ≡ length (parts_of row)
-    as_many = EachFormed-length middle pairs cs each ∙ ap length left
+  pub as_many : length (places_of cs) ≡ length (parts_of row)
+  as_many = EachFormed-length middle pairs cs known.each ∙ ap length known.left
 
-    -- the row may go into the table
-    pub both_fits : FitsTable middle both
-    both_fits = record {
-      parts = subst (λ (parts : List ℕ). All (MayBePart middle) parts)
-          (sym (parts_of-with_parts row (places_of cs) as_many))
-          (parts_fit middle pairs cs each
-          (subst (λ (parts : List ℕ). All (λ part. height middle part < MOST_HEIGHT) parts) (sym left)
-          (parts_are_low middle a row table at_a))
-          (subst (λ (parts : List ℕ). All (λ part. height middle part < MOST_HEIGHT) parts) (sym right)
-          (parts_are_low middle b other table at_b)));
-      width = HasWidth-with_parts row (places_of cs) as_many (table.widths a row at_a);
+  -- the row may go into the table
+  pub both_fits : FitsTable middle both
+  both_fits = record {
+    parts = subst (λ (parts : List ℕ). All (MayBePart middle) parts)
+        (sym (parts_of-with_parts row (places_of cs) as_many))
+        (parts_fit middle pairs cs known.each
+        (subst (λ (parts : List ℕ). All (λ part. height middle part < MOST_HEIGHT) parts) (sym known.left)
+        (parts_are_low middle a row table known.at_a))
+        (subst (λ (parts : List ℕ). All (λ part. height middle part < MOST_HEIGHT) parts) (sym known.right)
+        (parts_are_low middle b other table known.at_b)));
+    width = HasWidth-with_parts row (places_of cs) as_many (table.widths a row known.at_a);
+  }
+
+  -- in each table that has its row there, the parts of the first type end within one depth less
+  deep_enough : (rows : TypeRows) → row_at rows a ≡ Some row → (depth : ℕ) → EndsWithin (suc depth) rows a →
+      All (EndsWithin depth rows) (firsts pairs)
+  deep_enough rows at depth deep =
+      subst (λ (parts : List ℕ). All (EndsWithin depth rows) parts) (ap row_parts at ∙ sym known.left)
+      (parts_end rows depth a deep)
+
+  -- in the table that it went into
+  module _ (new : TypeRows) (c : ℕ) (ordered : IsOrderedTable new) (grown : HasMoreRows middle new)
+      (at_c : row_at new c ≡ Some both) where
+    new_a : row_at new a ≡ Some row
+    new_a = row_stays middle new a row grown known.at_a
+
+    new_b : row_at new b ≡ Some other
+    new_b = row_stays middle new b other grown known.at_b
+
+    new_each : EachFormed new pairs cs
+    new_each = EachFormed-grown middle new pairs cs table.finite grown known.each
+
+    formed_again : (more : TypeRows) (depth : ℕ) → EndsWithin depth (new ++ more) a →
+        blend_to depth a b (new ++ more) ≡ (c, new ++ more)
+    formed_again more zero deep = cc
+    formed_again more (suc depth) deep =
+        ap₂ (λ r o. blend_rows (blend_to depth) a b r o (new ++ more)) (get_kept new more a row new_a)
+        (get_kept new more b other new_b)
+        ∙ plain_blend (blend_to depth) a b row other (new ++ more) known.row_plain known.other_plain
+        ∙ ap₂ (λ xs ys. intern (with_parts row (blend_each (blend_to depth) xs ys (new ++ more)).0)
+        (blend_each (blend_to depth) xs ys (new ++ more)).1) (sym known.left) (sym known.right)
+        ∙ ap (λ (done : List ℕ × TypeRows). intern (with_parts row done.0) done.1)
+        (each_again depth new more pairs cs new_each
+        (deep_enough (new ++ more) (get_kept new more a row new_a) depth deep))
+        ∙ intern_there_more both new more c ordered.distinct at_c
+
+    blends : (depth : ℕ) → IsBlendTo depth new a b c
+    blends zero = tt
+    blends (suc depth) = (
+      row,
+      other,
+      both,
+      new_a,
+      new_b,
+      at_c,
+      subst (λ d. MatchBool d (both ≡ DynRow)
+          ((same_head row both ≡ true) × (same_head other both ≡ true)
+          × AllBlend (IsBlendTo depth new) (parts_of row) (parts_of other) (parts_of both)))
+          (sym (ap₂ ◌||◌ known.row_plain known.other_plain)) (
+            same_head-with_parts row (places_of cs) as_many,
+            same_heads-symmetric row other known.heads (places_of cs) as_many,
+            subst (λ (parts : List ℕ). AllBlend (IsBlendTo depth new) (parts_of row) (parts_of other) parts)
+                (sym (parts_of-with_parts row (places_of cs) as_many))
+                (subst (λ (parts : List ℕ). AllBlend (IsBlendTo depth new) parts (parts_of other) (places_of cs))
+                known.left
+                (subst (λ (parts : List ℕ). AllBlend (IsBlendTo depth new) (firsts pairs) parts (places_of cs))
+                known.right
+                (AllBlend-from_EachFormed depth new pairs cs new_each))),
+          ),
+    )
+
+    height_of : (k : ℕ) (r : TypeRow) → row_at new k ≡ Some r → height new k ≡ above_all (height new) (parts_of r)
+    height_of k r at =
+        height_by_parts new ordered.finite k (slice_get_within new k r at)
+        ∙ ap (λ o. above_all (height new) (row_parts o)) at
+
+    no_higher : height new c ≤ max (height new a) (height new b)
+    no_higher =
+        let of_c = height_of c both at_c
+        ∙ ap (above_all (height new)) (parts_of-with_parts row (places_of cs) as_many) in
+        let of_a = height_of a row new_a ∙ ap (above_all (height new)) (sym known.left) in
+        let of_b = height_of b other new_b ∙ ap (above_all (height new)) (sym known.right) in
+        let parts = parts_no_higher new pairs cs new_each in
+        omega arith
+
+    -- the blend is there
+    pub IsFormed-both : IsFormed new a b c
+    IsFormed-both = record {
+      there = slice_get_within new c both at_c;
+      again = formed_again;
+      blends = blends;
+      low = no_higher;
     }
 
-    -- in each table that has its row there, the parts of the first type end within one depth less
-    deep_enough : (rows : TypeRows) → row_at rows a ≡ Some row → (depth : ℕ) → EndsWithin (suc depth) rows a →
-        All (EndsWithin depth rows) (firsts pairs)
-    deep_enough rows at depth deep =
-        subst (λ (parts : List ℕ). All (EndsWithin depth rows) parts) (ap row_parts at ∙ sym left)
-        (parts_end rows depth a deep)
-
-    -- in the table that it went into
-    module _ (new : TypeRows) (c : ℕ) (ordered : IsOrderedTable new) (grown : HasMoreRows middle new)
-        (at_c : row_at new c ≡ Some both) where
-      new_a : row_at new a ≡ Some row
-      new_a = row_stays middle new a row grown at_a
-
-      new_b : row_at new b ≡ Some other
-      new_b = row_stays middle new b other grown at_b
-
-      new_each : EachFormed new pairs cs
-      new_each = EachFormed-grown middle new pairs cs table.finite grown each
-
-      formed_again : (more : TypeRows) (depth : ℕ) → EndsWithin depth (new ++ more) a →
-          blend_to depth a b (new ++ more) ≡ (c, new ++ more)
-      formed_again more zero deep = cc
-      formed_again more (suc depth) deep =
-          ap₂ (λ r o. blend_rows (blend_to depth) a b r o (new ++ more)) (get_kept new more a row new_a)
-          (get_kept new more b other new_b)
-          ∙ plain_blend (blend_to depth) a b row other (new ++ more) row_plain other_plain
-          ∙ ap₂ (λ xs ys. intern (with_parts row (blend_each (blend_to depth) xs ys (new ++ more)).0)
-          (blend_each (blend_to depth) xs ys (new ++ more)).1) (sym left) (sym right)
-          ∙ ap (λ (done : List ℕ × TypeRows). intern (with_parts row done.0) done.1)
-          (each_again depth new more pairs cs new_each
-          (deep_enough (new ++ more) (get_kept new more a row new_a) depth deep))
-          ∙ intern_there_more both new more c ordered.distinct at_c
-
-      blends : (depth : ℕ) → IsBlendTo depth new a b c
-      blends zero = tt
-      blends (suc depth) = (
-        row,
-        other,
-        both,
-        new_a,
-        new_b,
-        at_c,
-        subst (λ d. MatchBool d (both ≡ DynRow)
-            ((same_head row both ≡ true) × (same_head other both ≡ true)
-            × AllBlend (IsBlendTo depth new) (parts_of row) (parts_of other) (parts_of both)))
-            (sym (ap₂ ◌||◌ row_plain other_plain)) (
-              same_head-with_parts row (places_of cs) as_many,
-              same_heads-symmetric row other heads (places_of cs) as_many,
-              subst (λ (parts : List ℕ). AllBlend (IsBlendTo depth new) (parts_of row) (parts_of other) parts)
-                  (sym (parts_of-with_parts row (places_of cs) as_many))
-                  (subst (λ (parts : List ℕ). AllBlend (IsBlendTo depth new) parts (parts_of other) (places_of cs)) left
-                  (subst (λ (parts : List ℕ). AllBlend (IsBlendTo depth new) (firsts pairs) parts (places_of cs)) right
-                  (AllBlend-from_EachFormed depth new pairs cs new_each))),
-            ),
-      )
-
-      height_of : (k : ℕ) (r : TypeRow) → row_at new k ≡ Some r → height new k ≡ above_all (height new) (parts_of r)
-      height_of k r at =
-          height_by_parts new ordered.finite k (slice_get_within new k r at)
-          ∙ ap (λ o. above_all (height new) (row_parts o)) at
-
-      no_higher : height new c ≤ max (height new a) (height new b)
-      no_higher =
-          let of_c = height_of c both at_c
-          ∙ ap (above_all (height new)) (parts_of-with_parts row (places_of cs) as_many) in
-          let of_a = height_of a row new_a ∙ ap (above_all (height new)) (sym left) in
-          let of_b = height_of b other new_b ∙ ap (above_all (height new)) (sym right) in
-          let parts = parts_no_higher new pairs cs new_each in
-          omega arith
-
-      -- the blend is there
-      pub IsFormed-both : IsFormed new a b c
-      IsFormed-both = record {
-        there = slice_get_within new c both at_c;
-        again = formed_again;
-        blends = blends;
-        low = no_higher;
-      }
-
-      -- and it is what was to be formed from the table before
-      pub computes : (old : TypeRows) → row_at old a ≡ Some row → row_at old b ≡ Some other →
-          ((depth : ℕ) → All (EndsWithin depth old) (firsts pairs) →
-          blend_each (blend_to depth) (firsts pairs) (seconds pairs) old ≡ (places_of cs, middle)) →
-          intern both middle ≡ (c, new) → (depth : ℕ) → EndsWithin depth old a → blend_to depth a b old ≡ (c, new)
-      computes old old_a old_b parts last zero deep = cc
-      computes old old_a old_b parts last (suc depth) deep =
-          ap₂ (λ r o. blend_rows (blend_to depth) a b r o old) old_a old_b
-          ∙ plain_blend (blend_to depth) a b row other old row_plain other_plain
-          ∙ ap₂ (λ xs ys. intern (with_parts row (blend_each (blend_to depth) xs ys old).0)
-          (blend_each (blend_to depth) xs ys old).1) (sym left) (sym right)
-          ∙ ap (λ (done : List ℕ × TypeRows). intern (with_parts row done.0) done.1)
-          (parts depth (deep_enough old old_a depth deep))
-          ∙ last
+    -- and it is what was to be formed from the table before
+    pub computes : (old : TypeRows) → row_at old a ≡ Some row → row_at old b ≡ Some other →
+        ((depth : ℕ) → All (EndsWithin depth old) (firsts pairs) →
+        blend_each (blend_to depth) (firsts pairs) (seconds pairs) old ≡ (places_of cs, middle)) →
+        intern both middle ≡ (c, new) → (depth : ℕ) → EndsWithin depth old a → blend_to depth a b old ≡ (c, new)
+    computes old old_a old_b parts last zero deep = cc
+    computes old old_a old_b parts last (suc depth) deep =
+        ap₂ (λ r o. blend_rows (blend_to depth) a b r o old) old_a old_b
+        ∙ plain_blend (blend_to depth) a b row other old known.row_plain known.other_plain
+        ∙ ap₂ (λ xs ys. intern (with_parts row (blend_each (blend_to depth) xs ys old).0)
+        (blend_each (blend_to depth) xs ys old).1) (sym known.left) (sym known.right)
+        ∙ ap (λ (done : List ℕ × TypeRows). intern (with_parts row done.0) done.1)
+        (parts depth (deep_enough old old_a depth deep))
+        ∙ last
 
 -- ---- blends with Dyn
 
@@ -523,81 +551,54 @@ module _ (types : TypeRows) (a b : ℕ) (row other : TypeRow) (at_a : row_at typ
       ((same_head row both ≡ true) × (same_head other both ≡ true)
       × AllBlend (IsBlendTo depth types) (parts_of row) (parts_of other) (parts_of both))) (sym dyn) same
 
-  -- the blend of Dyn and another type is Dyn
-  pub IsFormed-first : is_dyn row ≡ true → IsFormed types a b a
-  IsFormed-first dyn = record {
-    there = slice_get_within types a row at_a;
+  -- Dyn is the blend where either is Dyn and it is what is formed
+  dyn_formed : (c : ℕ) (both : TypeRow) → row_at types c ≡ Some both → both ≡ DynRow →
+      (is_dyn row || is_dyn other) ≡ true → height types c ≤ max (height types a) (height types b) →
+      ((blended : ℕ → ℕ → Forming ℕ) (rows : TypeRows) →
+      blend_rows blended a b (Some row) (Some other) rows ≡ (c, rows)) → IsFormed types a b c
+  dyn_formed c both at_c same dyn low forms = record {
+    there = slice_get_within types c both at_c;
     again = again;
     blends = blends;
-    low = omega arith;
+    low = low;
   }
     where
       again : (more : TypeRows) (depth : ℕ) → EndsWithin depth (types ++ more) a →
-          blend_to depth a b (types ++ more) ≡ (a, types ++ more)
+          blend_to depth a b (types ++ more) ≡ (c, types ++ more)
       again more zero deep = cc
       again more (suc depth) deep =
           ap₂ (λ r o. blend_rows (blend_to depth) a b r o (types ++ more)) (get_kept types more a row at_a)
           (get_kept types more b other at_b)
-          ∙ first_dyn (blend_to depth) (types ++ more)
-        where
-          first_dyn : (blended : ℕ → ℕ → Forming ℕ) (rows : TypeRows) →
-              blend_rows blended a b (Some row) (Some other) rows ≡ (a, rows)
-          first_dyn blended rows =
-              let joined : Forming ℕ =
-              λ now. intern (with_parts row (blend_each blended (parts_of row) (parts_of other) now).0)
-              (blend_each blended (parts_of row) (parts_of other) now).1 in
-              ap (λ t. cond t (formed a) (cond (is_dyn other) (formed b) joined) rows) dyn
+          ∙ forms (blend_to depth) (types ++ more)
 
-      blends : (depth : ℕ) → IsBlendTo depth types a b a
+      blends : (depth : ℕ) → IsBlendTo depth types a b c
       blends zero = tt
-      blends (suc depth) = (
-        row,
-        other,
-        row,
-        at_a,
-        at_b,
-        at_a,
-        either_dyn depth a row (ap (λ d. d || is_dyn other) dyn)
-            (dyn_row row dyn),
-      )
+      blends (suc depth) = (row, other, both, at_a, at_b, at_c, either_dyn depth c both dyn same)
+
+  abbrev joined : (ℕ → ℕ → Forming ℕ) → Forming ℕ
+  joined blended =
+      λ rows. intern (with_parts row (blend_each blended (parts_of row) (parts_of other) rows).0)
+      (blend_each blended (parts_of row) (parts_of other) rows).1
+
+  -- the blend of Dyn and another type is Dyn
+  pub IsFormed-first : is_dyn row ≡ true → IsFormed types a b a
+  IsFormed-first dyn = dyn_formed a row at_a (dyn_row row dyn) (ap (λ d. d || is_dyn other) dyn) (omega arith) first_dyn
+    where
+      first_dyn : (blended : ℕ → ℕ → Forming ℕ) (rows : TypeRows) →
+          blend_rows blended a b (Some row) (Some other) rows ≡ (a, rows)
+      first_dyn blended rows =
+          ap (λ t. cond t (formed a) (cond (is_dyn other) (formed b) (joined blended)) rows) dyn
 
   -- and so is that of another type and Dyn
   pub IsFormed-second : is_dyn row ≡ false → is_dyn other ≡ true → IsFormed types a b b
-  IsFormed-second plain dyn = record {
-    there = slice_get_within types b other at_b;
-    again = again;
-    blends = blends;
-    low = omega arith;
-  }
+  IsFormed-second plain dyn =
+      dyn_formed b other at_b (dyn_row other dyn) (ap₂ ◌||◌ plain dyn) (omega arith) second_dyn
     where
-      again : (more : TypeRows) (depth : ℕ) → EndsWithin depth (types ++ more) a →
-          blend_to depth a b (types ++ more) ≡ (b, types ++ more)
-      again more zero deep = cc
-      again more (suc depth) deep =
-          ap₂ (λ r o. blend_rows (blend_to depth) a b r o (types ++ more)) (get_kept types more a row at_a)
-          (get_kept types more b other at_b)
-          ∙ second_dyn (blend_to depth) (types ++ more)
-        where
-          second_dyn : (blended : ℕ → ℕ → Forming ℕ) (rows : TypeRows) →
-              blend_rows blended a b (Some row) (Some other) rows ≡ (b, rows)
-          second_dyn blended rows =
-              let joined : Forming ℕ =
-              λ now. intern (with_parts row (blend_each blended (parts_of row) (parts_of other) now).0)
-              (blend_each blended (parts_of row) (parts_of other) now).1 in
-              ap (λ t. cond t (formed a) (cond (is_dyn other) (formed b) joined) rows) plain
-              ∙ ap (λ t. cond t (formed b) joined rows) dyn
-
-      blends : (depth : ℕ) → IsBlendTo depth types a b b
-      blends zero = tt
-      blends (suc depth) = (
-        row,
-        other,
-        other,
-        at_a,
-        at_b,
-        at_b,
-        either_dyn depth b other (ap₂ ◌||◌ plain dyn) (dyn_row other dyn),
-      )
+      second_dyn : (blended : ℕ → ℕ → Forming ℕ) (rows : TypeRows) →
+          blend_rows blended a b (Some row) (Some other) rows ≡ (b, rows)
+      second_dyn blended rows =
+          ap (λ t. cond t (formed a) (cond (is_dyn other) (formed b) (joined blended)) rows) plain
+          ∙ ap (λ t. cond t (formed b) (joined blended) rows) dyn
 
 -- ---- what is remembered
 
@@ -609,25 +610,14 @@ pub AreFormed-grown : (types new : TypeRows) (known : Blends) → AreFinite type
 AreFormed-grown types new known finite more h pair c e =
     IsFormed-grown types new pair.first.0 pair.second.0 c.0 finite more (h pair c e)
 
-known_from : (types : TypeRows) (old : Blends) (key pair : Pair) (c d : TypeId) (same : Bool) →
-    ghosts.eq key pair ≡ same →
-    AreFormed types old → IsFormed types key.first.0 key.second.0 c.0 →
-    cond same (Some c) (get ghosts.eq old pair) ≡ Some d →
-    IsFormed types pair.first.0 pair.second.0 d.0
-known_from types old key pair c d true test h one e =
-    let keys : key ≡ pair = same_pair key pair test in
-    let values : c ≡ d = same_some c d e in
-    subst (λ (p : Pair). IsFormed types p.first.0 p.second.0 d.0) keys
-    (subst (λ (x : TypeId). IsFormed types key.first.0 key.second.0 x.0) values one)
-known_from types old key pair c d false test h one e = h pair d e
-
 -- one blend more
 pub AreFormed-insert : (types : TypeRows) (old new : Blends) (key : Pair) (c : TypeId) → AreFormed types old →
     IsFormed types key.first.0 key.second.0 c.0 →
     ((pair : Pair) → get ghosts.eq new pair ≡ cond (ghosts.eq key pair) (Some c) (get ghosts.eq old pair)) →
     AreFormed types new
-AreFormed-insert types old new key c h one updates pair d e =
-    known_from types old key pair c d (ghosts.eq key pair) refl h one (sym (updates pair) ∙ e)
+AreFormed-insert types old new key c h one updates =
+    each_entry-insert same_pair (λ (pair : Pair) (d : TypeId). IsFormed types pair.first.0 pair.second.0 d.0)
+    (get ghosts.eq old) (get ghosts.eq new) key c h one updates
 
 -- ---- pairs in a list
 

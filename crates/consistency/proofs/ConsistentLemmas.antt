@@ -1,15 +1,14 @@
 -- Consistency goes by rows, and stays where rows are added.
-use Rattle.std.proofs.Common.{◌≡◌, ℕ, zero, suc, ◌+◌, ◌<◌, Bool, true, false, List, [], ◌∷◌, ◌++◌, length}
-use Rattle.std.proofs.Common.{take, get_or, Option, Some, None, refl, ap, ap₂, ◌∙◌, arith}
+use Rattle.std.proofs.Common.{◌≡◌, ℕ, zero, suc, ◌<◌, Bool, true, false, List, [], ◌∷◌, ◌++◌, length}
+use Rattle.std.proofs.Common.{Option, Some, None, refl, ap, ap₂, ◌∙◌}
 use Rattle.std.specs.Prelude.{◌&&◌, ◌||◌, nat_eq, All}
-use Rattle.std.proofs.lemmas.Bool.{and_parts}
-use Rattle.std.proofs.lemmas.List.{map_more}
 use Rattle.std.proofs.lemmas.List.Elements.{All-head, All-tail}
 use lib.Dec.{eqb-suc-suc, eqb-zero-suc, eqb-suc-zero}
 use Rattle.grift_base.specs.declared.places.TypeId.{TypeId}
-use Rattle.grift_base.specs.Types.{TypeRow, TypeRows, FunRow, row_at, parts_of, is_dyn, same_head, TupleRow, RefRow}
-use Rattle.grift_base.specs.Types.{VectRow}
-use Rattle.type_graph.specs.Rows.{places_of}
+use Rattle.grift_base.specs.Types.{TypeRow, TypeRows, row_at, parts_of, is_dyn, same_head}
+use Rattle.type_graph.specs.Rows.{places_of, row_of}
+use Rattle.type_graph.specs.declared.rows.Row.{Row}
+use Rattle.type_graph.specs.declared.rows.Row.TheVariants.{Fun, Tuple, Ref, Vect}
 use Rattle.type_graph.specs.Trees.{row_parts, EndsWithin, AreFinite, related}
 use Rattle.type_graph.specs.TypeTables.{HasMoreRows}
 use Rattle.type_graph.proofs.Public.{row_same, parts_within, parts_end_twice, ends_deeper, ends_within_new}
@@ -93,46 +92,7 @@ module _ (types new : TypeRows) (finite : AreFinite types) (more : HasMoreRows t
       ∙ consistent_steady types (length new) (length types) a b (ends_within_new types new finite more a one)
       (finite.ends a one)
 
--- ---- parts in lists
-
-related-push : (f : ℕ → ℕ → Bool) (xs ys : List ℕ) (x y : ℕ) → related f xs ys ≡ true → f x y ≡ true →
-    related f (xs ++ x ∷ []) (ys ++ y ∷ []) ≡ true
-related-push f [] [] x y e h = ap (λ b. b && true) h
-related-push f [] (z ∷ ys) x y e h = cc
-related-push f (w ∷ xs) [] x y e h = cc
-related-push f (w ∷ xs) (z ∷ ys) x y e h =
-    let both = and_parts (f w z) (related f xs ys) e in
-    ap₂ ◌&&◌ both.0 (related-push f xs ys x y both.1 h)
-
--- one pair more
-pub related_more : (f : ℕ → ℕ → Bool) (xs ys : List TypeId) (k : ℕ) (d : TypeId) → k < length xs → k < length ys →
-    related f (places_of (take k xs)) (places_of (take k ys)) ≡ true → f (get_or xs k d).0 (get_or ys k d).0 ≡ true →
-    related f (places_of (take (k + 1) xs)) (places_of (take (k + 1) ys)) ≡ true
-related_more f xs ys k d one two e h =
-    ap₂ (λ a b. related f a b) (map_more (λ (id : TypeId). id.0) xs k d one)
-    (map_more (λ (id : TypeId). id.0) ys k d two)
-    ∙ related-push f (places_of (take k xs)) (places_of (take k ys)) (get_or xs k d).0 (get_or ys k d).0 e h
-
-and_false : (b : Bool) → (b && false) ≡ false
-and_false true = refl
-and_false false = refl
-
--- a pair that is not related spoils the lists
-pub related_fails : (f : ℕ → ℕ → Bool) (xs ys : List TypeId) (k : ℕ) (d : TypeId) → k < length xs → k < length ys →
-    f (get_or xs k d).0 (get_or ys k d).0 ≡ false → related f (places_of xs) (places_of ys) ≡ false
-related_fails f [] ys k d one two e = absurd (omega arith)
-related_fails f (x ∷ xs) [] k d one two e = absurd (omega arith)
-related_fails f (x ∷ xs) (y ∷ ys) zero d one two e = ap (λ b. b && related f (places_of xs) (places_of ys)) e
-related_fails f (x ∷ xs) (y ∷ ys) (suc k) d one two e =
-    ap (λ b. f x.0 y.0 && b) (related_fails f xs ys k d (omega arith) (omega arith) e) ∙ and_false (f x.0 y.0)
-
-pub related_lengths : (f : ℕ → ℕ → Bool) (xs ys : List TypeId) → (length xs ≡ length ys → ⊥) →
-    related f (places_of xs) (places_of ys) ≡ false
-related_lengths f [] [] differ = absurd (differ refl)
-related_lengths f [] (y ∷ ys) differ = refl
-related_lengths f (x ∷ xs) [] differ = refl
-related_lengths f (x ∷ xs) (y ∷ ys) differ =
-    ap (λ b. f x.0 y.0 && b) (related_lengths f xs ys (λ e. differ (ap suc e))) ∙ and_false (f x.0 y.0)
+-- ---- parts of functions and tuples
 
 -- functions are consistent where their parameters and results are
 pub related_functions : (f : ℕ → ℕ → Bool) (xs ys : List ℕ) (x y : ℕ) →
@@ -185,26 +145,35 @@ and_true true = refl
 and_true false = refl
 
 module _ (types : TypeRows) (finite : AreFinite types) (a b : ℕ) (within : a < length types) where
-  by_rows : (row other : TypeRow) → row_at types a ≡ Some row → row_at types b ≡ Some other →
-      consistent types a b ≡ consistent_rows (consistent types) (Some row) (Some other)
-  by_rows row other at_a at_b =
-      consistent_by_rows types finite a b within ∙ ap₂ (λ r o. consistent_rows (consistent types) r o) at_a at_b
+  by_rows : {row other first second : Row} → row ≡ first → other ≡ second → row_at types a ≡ Some (row_of row) →
+      row_at types b ≡ Some (row_of other) →
+      consistent types a b ≡ consistent_rows (consistent types) (Some (row_of first)) (Some (row_of second))
+  by_rows is_first is_second at_a at_b =
+      consistent_by_rows types finite a b within
+      ∙ ap₂ (λ r o. consistent_rows (consistent types) r o) (at_a ∙ ap (λ r. Some (row_of r)) is_first)
+      (at_b ∙ ap (λ r. Some (row_of r)) is_second)
 
-  pub functions_consistent : (xs ys : List ℕ) (x y : ℕ) → row_at types a ≡ Some (FunRow xs x) →
-      row_at types b ≡ Some (FunRow ys y) →
-      consistent types a b ≡ (related (consistent types) xs ys && consistent types x y)
-  functions_consistent xs ys x y at_a at_b =
-      by_rows (FunRow xs x) (FunRow ys y) at_a at_b ∙ related_functions (consistent types) xs ys x y
+  pub functions_consistent : {row other : Row} {xs ys : List TypeId} {x y : TypeId} → row ≡ Fun xs x →
+      other ≡ Fun ys y → row_at types a ≡ Some (row_of row) → row_at types b ≡ Some (row_of other) →
+      consistent types a b ≡ (related (consistent types) (places_of xs) (places_of ys) && consistent types x.0 y.0)
+  functions_consistent {row} {other} {xs} {ys} {x} {y} is_first is_second at_a at_b =
+      by_rows is_first is_second at_a at_b
+      ∙ related_functions (consistent types) (places_of xs) (places_of ys) x.0 y.0
 
-  pub tuples_consistent : (xs ys : List ℕ) → row_at types a ≡ Some (TupleRow xs) → row_at types b ≡ Some (TupleRow ys) →
-      consistent types a b ≡ related (consistent types) xs ys
-  tuples_consistent xs ys at_a at_b =
-      by_rows (TupleRow xs) (TupleRow ys) at_a at_b ∙ related_tuples (consistent types) xs ys
+  pub tuples_consistent : {row other : Row} {xs ys : List TypeId} → row ≡ Tuple xs → other ≡ Tuple ys →
+      row_at types a ≡ Some (row_of row) → row_at types b ≡ Some (row_of other) →
+      consistent types a b ≡ related (consistent types) (places_of xs) (places_of ys)
+  tuples_consistent {row} {other} {xs} {ys} is_first is_second at_a at_b =
+      by_rows is_first is_second at_a at_b ∙ related_tuples (consistent types) (places_of xs) (places_of ys)
 
-  pub references_consistent : (x y : ℕ) → row_at types a ≡ Some (RefRow x) → row_at types b ≡ Some (RefRow y) →
-      consistent types a b ≡ consistent types x y
-  references_consistent x y at_a at_b = by_rows (RefRow x) (RefRow y) at_a at_b ∙ and_true (consistent types x y)
+  pub references_consistent : {row other : Row} {x y : TypeId} → row ≡ Ref x → other ≡ Ref y →
+      row_at types a ≡ Some (row_of row) → row_at types b ≡ Some (row_of other) →
+      consistent types a b ≡ consistent types x.0 y.0
+  references_consistent {row} {other} {x} {y} is_first is_second at_a at_b =
+      by_rows is_first is_second at_a at_b ∙ and_true (consistent types x.0 y.0)
 
-  pub vectors_consistent : (x y : ℕ) → row_at types a ≡ Some (VectRow x) → row_at types b ≡ Some (VectRow y) →
-      consistent types a b ≡ consistent types x y
-  vectors_consistent x y at_a at_b = by_rows (VectRow x) (VectRow y) at_a at_b ∙ and_true (consistent types x y)
+  pub vectors_consistent : {row other : Row} {x y : TypeId} → row ≡ Vect x → other ≡ Vect y →
+      row_at types a ≡ Some (row_of row) → row_at types b ≡ Some (row_of other) →
+      consistent types a b ≡ consistent types x.0 y.0
+  vectors_consistent {row} {other} {x} {y} is_first is_second at_a at_b =
+      by_rows is_first is_second at_a at_b ∙ and_true (consistent types x.0 y.0)

@@ -9,7 +9,7 @@ use Rattle.type_graph.specs.Rows.{places_of}
 use Rattle.type_graph.specs.Forming.{intern}
 use Rattle.type_graph.specs.Trees.{row_parts, IsClosed, EndsWithin, AreFinite, related}
 use Rattle.type_graph.specs.TypeTables.{HasMoreRows, IsOrderedTable}
-use Rattle.type_graph.proofs.Public.{slice_get_at, same_rows, more_rows, later_within, parts_within, row_stays}
+use Rattle.type_graph.proofs.Public.{slice_get_at, same_rows, more_rows, later_within, parts_within}
 use Rattle.type_graph.proofs.Public.{parts_end, ends_grown, IsOrderedTable-intern, row_at-intern, intern_adds}
 use Rattle.consistency.specs.declared.pairs.Pair.{Pair}
 use Rattle.consistency.specs.Consistency.{consistent}
@@ -17,6 +17,7 @@ use Rattle.consistency.specs.Blending.{with_parts, blend_each, blend_rows, blend
 use Rattle.consistency.specs.Known.{MayBlend, IsFormed, EachFormed, FormsBlend, firsts, seconds}
 use Rattle.consistency.proofs.ConsistentLemmas.{consistent_kept}
 use Rattle.consistency.proofs.BlendLemmas.{IsFormed-grown, plain_blend, plain_consistent, All-MayBlend, both_fits}
+use Rattle.consistency.proofs.BlendLemmas.{have_blended_parts}
 use Rattle.consistency.proofs.BlendLemmas.{IsFormed-both, IsFormed-first, IsFormed-second, heads_have_one_width}
 
 -- ---- numbers as places
@@ -147,14 +148,12 @@ module _ (depth : ℕ) (forms : FormsBlends depth) (types : TypeRows) (a b : ℕ
       let middle : TypeRows = done.1 in
       let cs : List TypeId = ids done.0 in
       let both : TypeRow = with_parts row (places_of cs) in
-      let mid_a = row_stays types middle a row each.1 at_a in
-      let mid_b = row_stays types middle b other each.1 at_b in
-      let fits = both_fits middle a b row other pairs cs each.0 mid_a mid_b row_plain other_plain parts.0 left right
-      each.2 in
+      let known = have_blended_parts types middle a b row other pairs cs table.finite a_there at_a at_b row_plain
+      other_plain h each.1 left right each.2 in
+      let fits = both_fits middle a b row other pairs cs each.0 known in
       let formed =
-      IsFormed-both middle a b row other pairs cs each.0 mid_a mid_b row_plain other_plain parts.0 left right
-      each.2 (intern both middle).1 (intern both middle).0 (IsOrderedTable-intern middle both each.0 fits)
-      (intern_adds both middle) (row_at-intern both middle) in
+      IsFormed-both middle a b row other pairs cs each.0 known (intern both middle).1 (intern both middle).0
+      (IsOrderedTable-intern middle both each.0 fits) (intern_adds both middle) (row_at-intern both middle) in
       outcome_is types a b (blend_to (suc depth) a b types) (intern both middle)
       (ap₂ (λ r o. blend_rows (blend_to depth) a b r o types) at_a at_b
       ∙ plain_blend (blend_to depth) a b row other types row_plain other_plain

@@ -8,15 +8,16 @@ use Rattle.type_graph.specs.Rows.{places_of, row_of}
 use Rattle.type_graph.specs.Trees.{EndsWithin, above_all, height, related}
 use Rattle.type_graph.specs.Forming.{intern}
 use Rattle.type_graph.specs.TypeTables.{HasMoreRows, FitsTable}
-use Rattle.type_graph.proofs.Public.{same_some, row_stays, more_rows, later_within, parts_within, above_all-most}
+use Rattle.type_graph.proofs.Public.{same_some, more_rows, later_within, parts_within, above_all-most}
 use Rattle.type_graph.proofs.Public.{parts_lower, ends_grown, height_grown, fun_parts, intern_adds}
 use Rattle.consistency.specs.declared.pairs.Pair.{Pair}
 use Rattle.consistency.specs.Consistency.{consistent}
 use Rattle.consistency.specs.Blending.{blend_each, blend_to, with_parts}
 use Rattle.consistency.specs.Known.{MayBlend, EachFormed, firsts, seconds}
 use Rattle.consistency.proofs.ConsistentLemmas.{consistent_kept}
-use Rattle.consistency.proofs.BlendLemmas.{EachFormed-grown, EachFormed-push, EachFormed-length}
-use Rattle.consistency.proofs.BlendLemmas.{plain_consistent, All-MayBlend, both_fits, IsFormed-both, computes}
+use Rattle.consistency.proofs.BlendLemmas.{EachFormed-grown, EachFormed-push}
+use Rattle.consistency.proofs.BlendLemmas.{plain_consistent, All-MayBlend, have_blended_parts, as_many, both_fits}
+use Rattle.consistency.proofs.BlendLemmas.{IsFormed-both, computes}
 use Rattle.consistency.proofs.BlendLemmas.{IsFormed-first, IsFormed-second, AreFormed-grown, AreFormed-insert}
 use Rattle.consistency.proofs.BlendLemmas.{first_below_all, one_more_computed}
 use Rattle.consistency.proofs.blends.+form.Goals as goal
@@ -146,138 +147,75 @@ form_row-form_each-requires t c =
 
 pub form_row-row_with_parts-requires : goal.form_row-row_with_parts-requires
 form_row-row_with_parts-requires t c =
-    let types = c.args.types.now in
-    let middle = c.form_each.new.types in
-    let table = c.len-2.ensures.table in
-    let a : ℕ = c.args.a.0 in
-    let b : ℕ = c.args.b.0 in
     let row : TypeRow = row_of c.row-row.result.now in
-    let other : TypeRow = row_of c.row-other.result.now in
-    let row_plain = sym c.is_dyn.ensures ∙ c.if-is_dyn.false in
-    let other_plain = sym c.is_dyn-2.ensures ∙ c.if-is_dyn-2.false in
-    let parts = plain_consistent types a b row other c.len.ensures.table.finite c.requires.a c.row-row.ensures
-    c.row-other.ensures row_plain other_plain c.requires.consistent in
-    let grown = c.in_ok-parts.ensures.grown in
-    let at_a : row_at middle a ≡ Some row = row_stays types middle a row grown c.row-row.ensures in
-    let at_b : row_at middle b ≡ Some other = row_stays types middle b other grown c.row-other.ensures in
-    let pairs : List Pair = c.in_ok-pairs.pairs.items in
     let cs : List TypeId = c.in_ok-parts.parts.items in
-    let each : EachFormed middle pairs cs =
-    subst (λ (ps : List Pair). EachFormed middle ps cs) c.as_slice.ensures.value c.in_ok-parts.ensures.formed in
-    let same_row : row_of c.row.result.now ≡ row =
-    same_some (row_of c.row.result.now) row (sym c.row.ensures ∙ at_a) in
-    rw (c.as_slice-2.ensures.value, same_row)
-    (sym (length-map cs (λ (id : TypeId). id.0)) ∙ EachFormed-length middle pairs cs each
-    ∙ ap length c.in_ok-pairs.ensures.firsts)
+    let known = have_blended_parts c.args.types.now c.form_each.new.types c.args.a.0 c.args.b.0 row
+    (row_of c.row-other.result.now) c.in_ok-pairs.pairs.items cs c.len.ensures.table.finite c.requires.a
+    c.row-row.ensures c.row-other.ensures (sym c.is_dyn.ensures ∙ c.if-is_dyn.false)
+    (sym c.is_dyn-2.ensures ∙ c.if-is_dyn-2.false) c.requires.consistent c.in_ok-parts.ensures.grown
+    c.in_ok-pairs.ensures.firsts c.in_ok-pairs.ensures.seconds
+    (subst (λ (ps : List Pair). EachFormed c.form_each.new.types ps cs) c.as_slice.ensures.value
+    c.in_ok-parts.ensures.formed) in
+    rw (c.as_slice-2.ensures.value, same_some (row_of c.row.result.now) row (sym c.row.ensures ∙ known.at_a))
+    (sym (length-map cs (λ (id : TypeId). id.0))
+    ∙ as_many c.form_each.new.types c.args.a.0 c.args.b.0 row (row_of c.row-other.result.now)
+    c.in_ok-pairs.pairs.items cs c.len-2.ensures.table known)
 
 pub form_row-intern-requires : goal.form_row-intern-requires
 form_row-intern-requires t c =
-    let types = c.args.types.now in
     let middle = c.form_each.new.types in
-    let table = c.len-2.ensures.table in
-    let a : ℕ = c.args.a.0 in
-    let b : ℕ = c.args.b.0 in
     let row : TypeRow = row_of c.row-row.result.now in
-    let other : TypeRow = row_of c.row-other.result.now in
-    let row_plain = sym c.is_dyn.ensures ∙ c.if-is_dyn.false in
-    let other_plain = sym c.is_dyn-2.ensures ∙ c.if-is_dyn-2.false in
-    let parts = plain_consistent types a b row other c.len.ensures.table.finite c.requires.a c.row-row.ensures
-    c.row-other.ensures row_plain other_plain c.requires.consistent in
-    let grown = c.in_ok-parts.ensures.grown in
-    let at_a : row_at middle a ≡ Some row = row_stays types middle a row grown c.row-row.ensures in
-    let at_b : row_at middle b ≡ Some other = row_stays types middle b other grown c.row-other.ensures in
-    let pairs : List Pair = c.in_ok-pairs.pairs.items in
     let cs : List TypeId = c.in_ok-parts.parts.items in
-    let each : EachFormed middle pairs cs =
-    subst (λ (ps : List Pair). EachFormed middle ps cs) c.as_slice.ensures.value c.in_ok-parts.ensures.formed in
-    let same_row : row_of c.row.result.now ≡ row =
-    same_some (row_of c.row.result.now) row (sym c.row.ensures ∙ at_a) in
+    let known = have_blended_parts c.args.types.now middle c.args.a.0 c.args.b.0 row
+    (row_of c.row-other.result.now) c.in_ok-pairs.pairs.items cs c.len.ensures.table.finite c.requires.a
+    c.row-row.ensures c.row-other.ensures (sym c.is_dyn.ensures ∙ c.if-is_dyn.false)
+    (sym c.is_dyn-2.ensures ∙ c.if-is_dyn-2.false) c.requires.consistent c.in_ok-parts.ensures.grown
+    c.in_ok-pairs.ensures.firsts c.in_ok-pairs.ensures.seconds
+    (subst (λ (ps : List Pair). EachFormed middle ps cs) c.as_slice.ensures.value c.in_ok-parts.ensures.formed) in
     let both : row_of c.in_ok-both.both ≡ with_parts row (places_of cs) =
     c.in_ok-both.ensures
-    ∙ ap₂ (λ r (xs : List TypeId). with_parts r (places_of xs)) same_row c.as_slice-2.ensures.value in
+    ∙ ap₂ (λ r (xs : List TypeId). with_parts r (places_of xs))
+    (same_some (row_of c.row.result.now) row (sym c.row.ensures ∙ known.at_a)) c.as_slice-2.ensures.value in
     subst (λ (r : TypeRow). FitsTable middle r) (sym both)
-    (both_fits middle a b row other pairs cs table at_a at_b row_plain other_plain parts.0 c.in_ok-pairs.ensures.firsts
-    c.in_ok-pairs.ensures.seconds each)
+    (both_fits middle c.args.a.0 c.args.b.0 row (row_of c.row-other.result.now) c.in_ok-pairs.pairs.items cs
+    c.len-2.ensures.table known)
 
-pub form_row-returns-clause-computed : goal.form_row-returns-clause-computed
-form_row-returns-clause-computed t c =
+pub form_row-returns : goal.form_row-returns
+form_row-returns t c =
     let types = c.args.types.now in
     let middle = c.form_each.new.types in
-    let table = c.len-2.ensures.table in
+    let new = c.intern.new.self in
     let a : ℕ = c.args.a.0 in
     let b : ℕ = c.args.b.0 in
     let row : TypeRow = row_of c.row-row.result.now in
     let other : TypeRow = row_of c.row-other.result.now in
-    let row_plain = sym c.is_dyn.ensures ∙ c.if-is_dyn.false in
-    let other_plain = sym c.is_dyn-2.ensures ∙ c.if-is_dyn-2.false in
-    let parts = plain_consistent types a b row other c.len.ensures.table.finite c.requires.a c.row-row.ensures
-    c.row-other.ensures row_plain other_plain c.requires.consistent in
-    let grown = c.in_ok-parts.ensures.grown in
-    let at_a : row_at middle a ≡ Some row = row_stays types middle a row grown c.row-row.ensures in
-    let at_b : row_at middle b ≡ Some other = row_stays types middle b other grown c.row-other.ensures in
     let pairs : List Pair = c.in_ok-pairs.pairs.items in
     let cs : List TypeId = c.in_ok-parts.parts.items in
-    let each : EachFormed middle pairs cs =
-    subst (λ (ps : List Pair). EachFormed middle ps cs) c.as_slice.ensures.value c.in_ok-parts.ensures.formed in
-    let same_row : row_of c.row.result.now ≡ row =
-    same_some (row_of c.row.result.now) row (sym c.row.ensures ∙ at_a) in
+    let known = have_blended_parts types middle c.args.a.0 c.args.b.0 row
+    (row_of c.row-other.result.now) c.in_ok-pairs.pairs.items cs c.len.ensures.table.finite c.requires.a
+    c.row-row.ensures c.row-other.ensures (sym c.is_dyn.ensures ∙ c.if-is_dyn.false)
+    (sym c.is_dyn-2.ensures ∙ c.if-is_dyn-2.false) c.requires.consistent c.in_ok-parts.ensures.grown
+    c.in_ok-pairs.ensures.firsts c.in_ok-pairs.ensures.seconds
+    (subst (λ (ps : List Pair). EachFormed middle ps cs) c.as_slice.ensures.value c.in_ok-parts.ensures.formed) in
     let both : row_of c.in_ok-both.both ≡ with_parts row (places_of cs) =
     c.in_ok-both.ensures
-    ∙ ap₂ (λ r (xs : List TypeId). with_parts r (places_of xs)) same_row c.as_slice-2.ensures.value in
-    let new = c.intern.new.self in
+    ∙ ap₂ (λ r (xs : List TypeId). with_parts r (places_of xs))
+    (same_some (row_of c.row.result.now) row (sym c.row.ensures ∙ known.at_a)) c.as_slice-2.ensures.value in
     let added =
     subst (λ (rows : TypeRows). HasMoreRows middle rows) (ap (λ (d : ℕ × TypeRows). d.1) c.in_ok-c.ensures.ok)
     (intern_adds (row_of c.in_ok-both.both) middle) in
     let at_c : row_at new c.in_ok-c.c.0 ≡ Some (with_parts row (places_of cs)) =
     c.in_ok-c.ensures.place ∙ ap Some both in
-    computes middle a b row other pairs cs table at_a at_b row_plain other_plain parts.0 c.in_ok-pairs.ensures.firsts
-    c.in_ok-pairs.ensures.seconds each new c.in_ok-c.c.0 c.len-3.ensures.table added at_c types c.row-row.ensures
-    c.row-other.ensures
-    (λ depth. subst (λ (ps : List Pair). All (EndsWithin depth types) (firsts ps) →
-    blend_each (blend_to depth) (firsts ps) (seconds ps) types ≡ (places_of cs, middle)) c.as_slice.ensures.value
-    (c.in_ok-parts.ensures.computed depth))
-    (ap (λ r. intern r middle) (sym both) ∙ c.in_ok-c.ensures.ok)
-
-pub form_row-returns-clause-formed : goal.form_row-returns-clause-formed
-form_row-returns-clause-formed t c =
-    let types = c.args.types.now in
-    let middle = c.form_each.new.types in
-    let table = c.len-2.ensures.table in
-    let a : ℕ = c.args.a.0 in
-    let b : ℕ = c.args.b.0 in
-    let row : TypeRow = row_of c.row-row.result.now in
-    let other : TypeRow = row_of c.row-other.result.now in
-    let row_plain = sym c.is_dyn.ensures ∙ c.if-is_dyn.false in
-    let other_plain = sym c.is_dyn-2.ensures ∙ c.if-is_dyn-2.false in
-    let parts = plain_consistent types a b row other c.len.ensures.table.finite c.requires.a c.row-row.ensures
-    c.row-other.ensures row_plain other_plain c.requires.consistent in
-    let grown = c.in_ok-parts.ensures.grown in
-    let at_a : row_at middle a ≡ Some row = row_stays types middle a row grown c.row-row.ensures in
-    let at_b : row_at middle b ≡ Some other = row_stays types middle b other grown c.row-other.ensures in
-    let pairs : List Pair = c.in_ok-pairs.pairs.items in
-    let cs : List TypeId = c.in_ok-parts.parts.items in
-    let each : EachFormed middle pairs cs =
-    subst (λ (ps : List Pair). EachFormed middle ps cs) c.as_slice.ensures.value c.in_ok-parts.ensures.formed in
-    let same_row : row_of c.row.result.now ≡ row =
-    same_some (row_of c.row.result.now) row (sym c.row.ensures ∙ at_a) in
-    let both : row_of c.in_ok-both.both ≡ with_parts row (places_of cs) =
-    c.in_ok-both.ensures
-    ∙ ap₂ (λ r (xs : List TypeId). with_parts r (places_of xs)) same_row c.as_slice-2.ensures.value in
-    let new = c.intern.new.self in
-    let added =
-    subst (λ (rows : TypeRows). HasMoreRows middle rows) (ap (λ (d : ℕ × TypeRows). d.1) c.in_ok-c.ensures.ok)
-    (intern_adds (row_of c.in_ok-both.both) middle) in
-    let at_c : row_at new c.in_ok-c.c.0 ≡ Some (with_parts row (places_of cs)) =
-    c.in_ok-c.ensures.place ∙ ap Some both in
-    IsFormed-both middle a b row other pairs cs table at_a at_b row_plain other_plain parts.0
-    c.in_ok-pairs.ensures.firsts
-    c.in_ok-pairs.ensures.seconds each new c.in_ok-c.c.0 c.len-3.ensures.table added at_c
-
-pub form_row-returns-clause-known : goal.form_row-returns-clause-known
-form_row-returns-clause-known t c =
-    let middle = c.form_each.new.types in
-    let added =
-    subst (λ (rows : TypeRows). HasMoreRows middle rows) (ap (λ (d : ℕ × TypeRows). d.1) c.in_ok-c.ensures.ok)
-    (intern_adds (row_of c.in_ok-both.both) middle) in
-    AreFormed-grown middle c.intern.new.self c.form_each.new.known c.len-2.ensures.table.finite added
-    c.in_ok-parts.ensures.known
+    record {
+      computed = computes middle a b row other pairs cs c.len-2.ensures.table known new c.in_ok-c.c.0
+          c.len-3.ensures.table added at_c types c.row-row.ensures c.row-other.ensures
+          (λ depth. subst (λ (ps : List Pair). All (EndsWithin depth types) (firsts ps) →
+          blend_each (blend_to depth) (firsts ps) (seconds ps) types ≡ (places_of cs, middle))
+          c.as_slice.ensures.value (c.in_ok-parts.ensures.computed depth))
+          (ap (λ r. intern r middle) (sym both) ∙ c.in_ok-c.ensures.ok);
+      formed = IsFormed-both middle a b row other pairs cs c.len-2.ensures.table known new c.in_ok-c.c.0
+          c.len-3.ensures.table added at_c;
+      known = AreFormed-grown middle new c.form_each.new.known c.len-2.ensures.table.finite added
+          c.in_ok-parts.ensures.known;
+      grown = more_rows types middle new c.in_ok-parts.ensures.grown added;
+    }
