@@ -8,21 +8,21 @@ use Rattle.indexmap.specs.IndexMap.{insert_entry}
 use Rattle.grift_base.specs.Types.{TypeRows}
 use Rattle.grift_base.specs.declared.places.TheConstants.{MOST_ENTRIES}
 use Rattle.type_graph.specs.Trees.{height}
-use Rattle.type_graph.proofs.Public.{get_before_or_last, get_last}
+use Rattle.type_graph.proofs.Public.{get_before_or_last, get_last, seen_keys, length-seen_keys, length-values_of}
+use Rattle.type_graph.proofs.Public.{seen_keys-push, values_of-push, insert_entry-absent}
 use Rattle.coercion_norm.specs.declared.nodes.CoercionNode.{CoercionNode}
 use Rattle.coercion_norm.specs.contracts.nodes.CoercionNodePartialEq.TheImpl.{ghosts}
 use Rattle.coercion_norm.specs.Heights.{coercion_height}
 use Rattle.coercion_norm.specs.Nodes.{Node, IdNode, AreOrdered, Grows, grown, node_of, node_types, tree_of}
 use Rattle.coercion_norm.specs.CoercionTables.{NodeTable, IsKept, IsSound, FitsTypes, MayBeNode}
 use Rattle.coercion_norm.proofs.NodeLemmas.{AreOrdered-push, IsTree-node, tree_kept}
-use Rattle.coercion_norm.proofs.EntryLemmas.{nodes_of, length-nodes_of, length-values, nodes_of-push, values_of-push}
-use Rattle.coercion_norm.proofs.EntryLemmas.{insert_entry-absent}
+use Rattle.coercion_norm.proofs.NodeViews.{same_node, node_of-injective}
 
 abbrev table_from : List Node → List ℕ → NodeTable
 table_from nodes heights = record { nodes = nodes; heights = heights }
 
 abbrev pub table_of : List (CoercionNode × ℕ) → NodeTable
-table_of es = record { nodes = nodes_of es; heights = values_of es }
+table_of es = record { nodes = seen_keys node_of es; heights = values_of es }
 
 -- a table with one node more
 abbrev pub with_node : NodeTable → Node → ℕ → NodeTable
@@ -117,16 +117,16 @@ IsKept-push table node high types kept may room = record {
 pub same_lengths : (es : List (CoercionNode × ℕ)) (table : NodeTable) → table_of es ≡ table
     → length table.heights ≡ length table.nodes
 same_lengths es table seen =
-    subst (λ t. length t.heights ≡ length t.nodes) seen (length-values es ∙ sym (length-nodes_of es))
+    subst (λ t. length t.heights ≡ length t.nodes) seen (length-values_of es ∙ sym (length-seen_keys node_of es))
 
 -- what the entries are then
 pub table_then : (es entries : List (CoercionNode × ℕ)) (node : CoercionNode) (high : ℕ) (table : NodeTable)
     → table_of es ≡ table → (¬ Contains table.nodes (node_of node)) → entries ≡ insert_entry ghosts.eq es node high
     → table_of entries ≡ with_node table (node_of node) high
 table_then es entries node high table seen absent inserted =
-    ap table_of (inserted ∙ insert_entry-absent es node high
+    ap table_of (inserted ∙ insert_entry-absent same_node node_of node_of-injective es node high
     (subst (λ (t : NodeTable). ¬ Contains t.nodes (node_of node)) (sym seen) absent))
-    ∙ both (nodes_of-push es node high) (values_of-push es node high)
+    ∙ both (seen_keys-push node_of es node high) (values_of-push es node high)
     ∙ ap (λ t. with_node t (node_of node) high) seen
   where
     both : {xs ys : List Node} {hs ks : List ℕ} → xs ≡ ys → hs ≡ ks

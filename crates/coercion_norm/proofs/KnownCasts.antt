@@ -1,8 +1,8 @@
 -- What is remembered of casts stays right where nodes are added, and where one more is remembered.
-use Rattle.std.proofs.Common.{◌≡◌, Bool, true, false, cond, Some, refl, sym, ◌∙◌, subst, List, rules}
+use Rattle.std.proofs.Common.{◌≡◌, true, cond, Some, List, rules}
 use Rattle.std.specs.HashMap.{get}
 use Rattle.grift_base.specs.Types.{TypeRows}
-use Rattle.type_graph.proofs.Public.{same_some}
+use Rattle.type_graph.proofs.Public.{each_entry-insert}
 use Rattle.coercion_norm.specs.declared.nodes.CoercionId.{CoercionId}
 use Rattle.coercion_norm.specs.declared.casts.Cast.{Cast}
 use Rattle.coercion_norm.specs.contracts.casts.CastPartialEq.TheImpl.{ghosts}
@@ -22,12 +22,5 @@ pub AreCasts-insert : (types : TypeRows) (nodes : List Node) (old new : Casts) (
     → AreCasts types nodes old → IsCastAt types nodes key c
     → ((cast : Cast) → get ghosts.eq new cast ≡ cond (ghosts.eq key cast) (Some c) (get ghosts.eq old cast))
     → AreCasts types nodes new
-AreCasts-insert types nodes old new key c known one updates = λ cast d e.
-    go cast d (ghosts.eq key cast) refl (sym (updates cast) ∙ e)
-  where
-    go : (cast : Cast) (d : CoercionId) (b : Bool) → ghosts.eq key cast ≡ b
-        → cond b (Some c) (get ghosts.eq old cast) ≡ Some d → IsCastAt types nodes cast d
-    go cast d true same e =
-        subst (IsCastAt types nodes cast) (same_some c d e)
-        (subst (λ k. IsCastAt types nodes k c) (eq_cast key cast same) one)
-    go cast d false same e = known cast d e
+AreCasts-insert types nodes old new key c known one updates =
+    each_entry-insert eq_cast (IsCastAt types nodes) (get ghosts.eq old) (get ghosts.eq new) key c known one updates

@@ -13,7 +13,6 @@ mod MiddleParts
 mod CastExamples
 mod NodeLemmas
 mod NodeViews
-mod EntryLemmas
 mod PartLemmas
 mod FittingLemmas
 mod MadeParts
