@@ -1,10 +1,10 @@
 -- What is remembered of pairs stays right where nodes are added, and where one more is remembered.
-use Rattle.std.proofs.Common.{◌≡◌, ℕ, ◌<◌, Bool, true, false, cond, Some, refl, sym, ap₂, ◌∙◌, subst, List}
+use Rattle.std.proofs.Common.{◌≡◌, ℕ, ◌<◌, true, cond, Some, sym, ap₂, subst, List}
 use Rattle.std.proofs.Common.{length}
 use Rattle.std.proofs.Common.{rules, arith}
 use Rattle.std.specs.HashMap.{get}
 use Rattle.grift_base.specs.Types.{TypeRows}
-use Rattle.type_graph.proofs.Public.{same_some}
+use Rattle.type_graph.proofs.Public.{each_entry-insert}
 use Rattle.coercion_norm.specs.declared.nodes.CoercionId.{CoercionId}
 use Rattle.coercion_norm.specs.Nodes.{Node, Grows, IsTree, PartsBefore, tree_of}
 use Rattle.coercion_norm.specs.CoercionTables.{composition_of}
@@ -63,12 +63,5 @@ pub ArePairs-insert : (types : TypeRows) (nodes : List Node) (old new : Pairs) (
     → ArePairs types nodes old → IsComposed types nodes key e
     → ((pair : Pair) → get ghosts.eq new pair ≡ cond (ghosts.eq key pair) (Some e) (get ghosts.eq old pair))
     → ArePairs types nodes new
-ArePairs-insert types nodes old new key e known one updates = λ pair f h.
-    go pair f (ghosts.eq key pair) refl (sym (updates pair) ∙ h)
-  where
-    go : (pair : Pair) (f : CoercionId) (b : Bool) → ghosts.eq key pair ≡ b
-        → cond b (Some e) (get ghosts.eq old pair) ≡ Some f → IsComposed types nodes pair f
-    go pair f true same h =
-        subst (IsComposed types nodes pair) (same_some e f h)
-        (subst (λ k. IsComposed types nodes k e) (eq_pair key pair same) one)
-    go pair f false same h = known pair f h
+ArePairs-insert types nodes old new key e known one updates =
+    each_entry-insert eq_pair (IsComposed types nodes) (get ghosts.eq old) (get ghosts.eq new) key e known one updates
