@@ -19,26 +19,9 @@ use Rattle.core_calc.specs.Terms.{Term, Terms, Members, IntLit, BoolLit, Var, La
 use Rattle.core_calc.specs.Terms.{Proj, ProjDyn, Tuple, Prim, NoTerms, TermThen, NoMembers, MemberThen}
 use Rattle.core_calc.specs.Terms.{NoBindings, BindingThen, terms_from}
 use Rattle.core_calc.specs.Calculus.{answer, calc}
+use Rattle.core_calc.proofs.ExampleTerms.{int, seq, one, two, three, let_one}
 
 -- ---- how the runs are written
-
-abbrev int : ℕ → Term
-int n = IntLit (pos n)
-
-abbrev seq : List Term → Term
-seq terms = Seq (terms_from terms)
-
-abbrev one : Term → Terms
-one term = TermThen term NoTerms
-
-abbrev two : Term → Term → Terms
-two first second = TermThen first (one second)
-
-abbrev three : Term → Term → Term → Terms
-three first second third = TermThen first (two second third)
-
-abbrev let_one : ℕ → Term → Term → Term
-let_one name bound body = Let (BindingThen name bound NoBindings) body
 
 -- the place of a label: each stands in a line of its own
 abbrev in_line : ℕ → Pos

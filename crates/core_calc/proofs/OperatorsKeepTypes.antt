@@ -12,7 +12,7 @@ use Rattle.std.proofs.lemmas.List.{length-replicate}
 use borrow.Author.Gap.{read_sfits}
 use Rattle.grift_base.specs.World.{WorldState, printing}
 use Rattle.grift_base.specs.Types.{TypeRow, IntRow, BoolRow, UnitRow, RefRow, VectRow, TypeRows, row_at, same_head}
-use Rattle.grift_base.specs.Types.{content_of}
+use Rattle.grift_base.specs.Types.{content_of, parts_of}
 use Rattle.grift_base.specs.declared.operators.PrimOp.{PrimOp}
 use Rattle.grift_base.specs.declared.operators.PrimOp.TheVariants.{Add, Sub, Mul, Quot, Rem, Lt, Le, Eq, Ge, Gt, Not}
 use Rattle.grift_base.specs.declared.operators.PrimOp.TheVariants.{PrintInt, Newline, ReadInt, MakeBox, Unbox, BoxSet}
@@ -31,7 +31,8 @@ use Rattle.core_calc.specs.Typing.{CellType, HasType, OperatorHasType, ValueHasT
 use Rattle.core_calc.specs.Typing.{StoreHasTypes, KeepsType}
 use Rattle.core_calc.proofs.ListPlaces.{none_is_not_some, same_some, both_some, get_last, get_replicate, length_set}
 use Rattle.core_calc.proofs.ListPlaces.{get_set}
-use Rattle.core_calc.proofs.RowsOfTables.{false_is_not_true, reference_like, vector_like, HasRow, parts_have_rows}
+use Rattle.core_calc.proofs.RowsOfTables.{false_is_not_true, reference_like, vector_like, HasRow, HaveRows}
+use Rattle.core_calc.proofs.RowsOfTables.{parts_have_rows}
 use Rattle.core_calc.proofs.TypedValues.{can_be, form, values_have_their_types_heads-integers}
 use Rattle.core_calc.proofs.TypedValues.{values_have_their_types_heads-truth_values, ListHasTypes}
 use Rattle.core_calc.proofs.StoredCells.{no_more_cells, cell_there, one_more_cell, cell_changed, keeps_some}
@@ -232,40 +233,35 @@ module _ (types : TypeRows) (labels : ℕ) (table : IsTypeTable types) (cells : 
 
   -- ---- through wrappers
 
-  -- what a wrapper's two types hold, where the outer one is that of a reference
-  reference_inside : (v : Value) (from label to box content : ℕ) → ValueHas (WrapValue v from label to) box →
-      Is box (RefRow content) → (inner : ℕ) × Is from (RefRow inner) × Is to (RefRow content) × ValueHas v from ×
+  -- what a wrapper's two types hold, where the outer one is that of a reference or a vector
+  held_inside : (holds : ℕ → TypeRow) → ((content : ℕ) → parts_of (holds content) ≡ content ∷ []) →
+      ((row : TypeRow) (content : ℕ) → same_head row (holds content) ≡ true → (other : ℕ) × (row ≡ holds other)) →
+      (v : Value) (from label to box content : ℕ) → ValueHas (WrapValue v from label to) box →
+      Is box (holds content) → (inner : ℕ) × Is from (holds inner) × Is to (holds content) × ValueHas v from ×
       HasRow types inner × HasRow types content × (label < labels)
-  reference_inside v from label to box content typed row =
-      let to_row : row_at types to ≡ Some (RefRow content) = ap (λ t. row_at types t) typed.2 ∙ row in
-      let same : typed.1 ≡ RefRow content = both_some (row_at types to) typed.1 (RefRow content) typed.5 to_row in
-      let like = reference_like typed.0 content (subst (λ o. same_head typed.0 o ≡ true) same typed.6) in
-      let from_row : row_at types from ≡ Some (RefRow like.0) = typed.4 ∙ ap Some like.1 in (
-        like.0,
+  held_inside holds part like v from label to box content typed row =
+      let to_row : row_at types to ≡ Some (holds content) = ap (λ t. row_at types t) typed.2 ∙ row in
+      let same : typed.1 ≡ holds content = both_some (row_at types to) typed.1 (holds content) typed.5 to_row in
+      let other = like typed.0 content (subst (λ o. same_head typed.0 o ≡ true) same typed.6) in
+      let from_row : row_at types from ≡ Some (holds other.0) = typed.4 ∙ ap Some other.1 in (
+        other.0,
         from_row,
         to_row,
         typed.3,
-        (parts_have_rows types table from (RefRow like.0) from_row).0,
-        (parts_have_rows types table to (RefRow content) to_row).0,
+        (subst (HaveRows types) (part other.0) (parts_have_rows types table from (holds other.0) from_row)).0,
+        (subst (HaveRows types) (part content) (parts_have_rows types table to (holds content) to_row)).0,
         typed.9,
       )
+
+  reference_inside : (v : Value) (from label to box content : ℕ) → ValueHas (WrapValue v from label to) box →
+      Is box (RefRow content) → (inner : ℕ) × Is from (RefRow inner) × Is to (RefRow content) × ValueHas v from ×
+      HasRow types inner × HasRow types content × (label < labels)
+  reference_inside = held_inside RefRow (λ content. refl) reference_like
 
   vector_inside : (v : Value) (from label to box content : ℕ) → ValueHas (WrapValue v from label to) box →
       Is box (VectRow content) → (inner : ℕ) × Is from (VectRow inner) × Is to (VectRow content) × ValueHas v from ×
       HasRow types inner × HasRow types content × (label < labels)
-  vector_inside v from label to box content typed row =
-      let to_row : row_at types to ≡ Some (VectRow content) = ap (λ t. row_at types t) typed.2 ∙ row in
-      let same : typed.1 ≡ VectRow content = both_some (row_at types to) typed.1 (VectRow content) typed.5 to_row in
-      let like = vector_like typed.0 content (subst (λ o. same_head typed.0 o ≡ true) same typed.6) in
-      let from_row : row_at types from ≡ Some (VectRow like.0) = typed.4 ∙ ap Some like.1 in (
-        like.0,
-        from_row,
-        to_row,
-        typed.3,
-        (parts_have_rows types table from (VectRow like.0) from_row).0,
-        (parts_have_rows types table to (VectRow content) to_row).0,
-        typed.9,
-      )
+  vector_inside = held_inside VectRow (λ content. refl) vector_like
 
   -- ---- boxes
 

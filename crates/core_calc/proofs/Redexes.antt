@@ -166,6 +166,18 @@ module _ (types : TypeRows) (store : Store) (world : WorldState) where
   steps_rest (Some v) f g go other h k = h
   steps_rest None f g go other h k = k
 
+  -- of an Enter whose arguments decide: where they are values, the whole is the redex
+  steps_by_arguments : (function : Term) (arguments : Terms) (go : List Value → Outcome Term) →
+      step types store world (Enter function arguments) ≡
+      if_some (all_values arguments) go (inside (Enter function) (step_terms types store world arguments)) →
+      StepsIn (focus_terms arguments) (step_terms types store world arguments) →
+      StepsIn (where_some (all_values arguments) (here (Enter function arguments))
+      (below (Enter function) (focus_terms arguments))) (step types store world (Enter function arguments))
+  steps_by_arguments function arguments go e h =
+      steps_whole (all_values arguments) (Enter function arguments) (below (Enter function) (focus_terms arguments)) go
+      (inside (Enter function) (step_terms types store world arguments)) e
+      (steps_below (Enter function) (focus_terms arguments) (step_terms types store world arguments) h)
+
   -- of an Enter whose function is this value: a function seen through a cast is the redex, and else the arguments
   -- decide
   steps_enter : (v : Value) (function : Term) (arguments : Terms) →
@@ -177,40 +189,19 @@ module _ (types : TypeRows) (store : Store) (world : WorldState) where
       (below (Enter function) (focus_terms arguments))))
       (step types store world (Enter function arguments))
   steps_enter (WrapValue v from label to) function arguments e h = steps_here (Enter function arguments)
-  steps_enter (IntValue n) function arguments e h =
-      steps_whole (all_values arguments) (Enter function arguments) (below (Enter function) (focus_terms arguments))
-      (λ values. Stuck) (inside (Enter function) (step_terms types store world arguments)) e
-      (steps_below (Enter function) (focus_terms arguments) (step_terms types store world arguments) h)
-  steps_enter (BoolValue b) function arguments e h =
-      steps_whole (all_values arguments) (Enter function arguments) (below (Enter function) (focus_terms arguments))
-      (λ values. Stuck) (inside (Enter function) (step_terms types store world arguments)) e
-      (steps_below (Enter function) (focus_terms arguments) (step_terms types store world arguments) h)
-  steps_enter UnitValue function arguments e h =
-      steps_whole (all_values arguments) (Enter function arguments) (below (Enter function) (focus_terms arguments))
-      (λ values. Stuck) (inside (Enter function) (step_terms types store world arguments)) e
-      (steps_below (Enter function) (focus_terms arguments) (step_terms types store world arguments) h)
+  steps_enter (IntValue n) function arguments e h = steps_by_arguments function arguments (λ values. Stuck) e h
+  steps_enter (BoolValue b) function arguments e h = steps_by_arguments function arguments (λ values. Stuck) e h
+  steps_enter UnitValue function arguments e h = steps_by_arguments function arguments (λ values. Stuck) e h
   steps_enter (FunValue parameters body type) function arguments e h =
-      steps_whole (all_values arguments) (Enter function arguments) (below (Enter function) (focus_terms arguments))
-      (enter_body types store world parameters body [])
-      (inside (Enter function) (step_terms types store world arguments)) e
-      (steps_below (Enter function) (focus_terms arguments) (step_terms types store world arguments) h)
+      steps_by_arguments function arguments (enter_body types store world parameters body []) e h
   steps_enter (MemberValue group place) function arguments e h =
-      steps_whole (all_values arguments) (Enter function arguments) (below (Enter function) (focus_terms arguments))
-      (enter_member types store world group place (group_values group))
-      (inside (Enter function) (step_terms types store world arguments)) e
-      (steps_below (Enter function) (focus_terms arguments) (step_terms types store world arguments) h)
+      steps_by_arguments function arguments (enter_member types store world group place (group_values group)) e h
   steps_enter (TupleValue parts) function arguments e h =
-      steps_whole (all_values arguments) (Enter function arguments) (below (Enter function) (focus_terms arguments))
-      (λ values. Stuck) (inside (Enter function) (step_terms types store world arguments)) e
-      (steps_below (Enter function) (focus_terms arguments) (step_terms types store world arguments) h)
+      steps_by_arguments function arguments (λ values. Stuck) e h
   steps_enter (LocValue cell is_vector) function arguments e h =
-      steps_whole (all_values arguments) (Enter function arguments) (below (Enter function) (focus_terms arguments))
-      (λ values. Stuck) (inside (Enter function) (step_terms types store world arguments)) e
-      (steps_below (Enter function) (focus_terms arguments) (step_terms types store world arguments) h)
+      steps_by_arguments function arguments (λ values. Stuck) e h
   steps_enter (InjectValue v kept) function arguments e h =
-      steps_whole (all_values arguments) (Enter function arguments) (below (Enter function) (focus_terms arguments))
-      (λ values. Stuck) (inside (Enter function) (step_terms types store world arguments)) e
-      (steps_below (Enter function) (focus_terms arguments) (step_terms types store world arguments) h)
+      steps_by_arguments function arguments (λ values. Stuck) e h
 
   steps_enter_of : (o : Option Value) (function : Term) (arguments : Terms) →
       step types store world (Enter function arguments) ≡ with_some o (λ f. enter_step types store world f arguments
