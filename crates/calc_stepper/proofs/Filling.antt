@@ -1,5 +1,5 @@
 -- What is found in a term, put in the place of its names, is the substitution.
-use Rattle.std.proofs.Common.{◌≡◌, List, [], ◌∷◌, ◌++◌, refl, ap, ◌∙◌, sym}
+use Rattle.std.proofs.Common.{◌≡◌, List, [], ◌∷◌, ◌++◌, refl, ap, ap₂, ◌∙◌, sym}
 use Rattle.std.specs.Prelude.{Option, option_map, reverse}
 use Rattle.std.proofs.lemmas.List.{append-nil, append_assoc, map-append, reverse-append, reverse-reverse}
 use mathlib.Core.List.{reverse_aux}
@@ -168,6 +168,11 @@ mutual
 
 -- ---- filled with its holes, a term is what the substitution makes of it
 
+-- two parts, of which the second is filled with what the first leaves
+then_filled : {A B C : Type 0} (make : A → B → C) (fill : Holes → B) {first made : A} {holes left : Holes}
+    {second : B} → first ≡ made → holes ≡ left → fill left ≡ second → make first (fill holes) ≡ make made second
+then_filled make fill {first} {made} e f g = ap₂ (λ x y. make x (fill y)) e f ∙ ap (make made) g
+
 mutual
   fills : (term : Term) (values : Substitution) (rest : Holes) →
       filled term (holes_in term values rest) ≡ substitute term values
@@ -179,43 +184,29 @@ mutual
       ap (λ x. Lambda parameters x type) (fills body (without parameters values) rest)
   fills (Group members body) values rest =
       let inner = without (member_names members) values in
-      ap (λ x. Group x (filled body (behind_members members (holes_in_members members inner
-      (holes_in body inner rest))))) (fills_members members inner (holes_in body inner rest)) ∙
-      ap (λ x. Group (substitute_members members inner) (filled body x))
-      (leaves_members members inner (holes_in body inner rest)) ∙
-      ap (Group (substitute_members members inner)) (fills body inner rest)
+      let after = holes_in body inner rest in
+      then_filled Group (filled body) (fills_members members inner after) (leaves_members members inner after)
+      (fills body inner rest)
   fills (Let bindings body) values rest =
       let inner = without (binding_names bindings) values in
-      ap (λ x. Let x (filled body (behind_bindings bindings (holes_in_bindings bindings values
-      (holes_in body inner rest))))) (fills_bindings bindings values (holes_in body inner rest)) ∙
-      ap (λ x. Let (substitute_bindings bindings values) (filled body x))
-      (leaves_bindings bindings values (holes_in body inner rest)) ∙
-      ap (Let (substitute_bindings bindings values)) (fills body inner rest)
+      let after = holes_in body inner rest in
+      then_filled Let (filled body) (fills_bindings bindings values after) (leaves_bindings bindings values after)
+      (fills body inner rest)
   fills (Call function arguments) values rest =
       let after = holes_in_terms arguments values rest in
-      ap (λ x. Call x (filled_terms arguments (behind function (holes_in function values after))))
-      (fills function values after) ∙
-      ap (λ x. Call (substitute function values) (filled_terms arguments x)) (leaves function values after) ∙
-      ap (Call (substitute function values)) (fills_terms arguments values rest)
+      then_filled Call (filled_terms arguments) (fills function values after) (leaves function values after)
+      (fills_terms arguments values rest)
   fills (Enter function arguments) values rest =
       let after = holes_in_terms arguments values rest in
-      ap (λ x. Enter x (filled_terms arguments (behind function (holes_in function values after))))
-      (fills function values after) ∙
-      ap (λ x. Enter (substitute function values) (filled_terms arguments x)) (leaves function values after) ∙
-      ap (Enter (substitute function values)) (fills_terms arguments values rest)
+      then_filled Enter (filled_terms arguments) (fills function values after) (leaves function values after)
+      (fills_terms arguments values rest)
   fills (If condition on_true on_false) values rest =
       let last = holes_in on_false values rest in
       let after = holes_in on_true values last in
-      ap (λ x. If x (filled on_true (behind condition (holes_in condition values after)))
-      (filled on_false (behind on_true (behind condition (holes_in condition values after)))))
-      (fills condition values after) ∙
-      ap (λ x. If (substitute condition values) (filled on_true x) (filled on_false (behind on_true x)))
+      ap₂ (λ x y. If x (filled on_true y) (filled on_false (behind on_true y))) (fills condition values after)
       (leaves condition values after) ∙
-      ap (λ x. If (substitute condition values) x (filled on_false (behind on_true after)))
-      (fills on_true values last) ∙
-      ap (λ x. If (substitute condition values) (substitute on_true values) (filled on_false x))
-      (leaves on_true values last) ∙
-      ap (If (substitute condition values) (substitute on_true values)) (fills on_false values rest)
+      then_filled (If (substitute condition values)) (filled on_false) (fills on_true values last)
+      (leaves on_true values last) (fills on_false values rest)
   fills (Seq terms) values rest = ap Seq (fills_terms terms values rest)
   fills (Cast term from to label) values rest = ap (λ x. Cast x from to label) (fills term values rest)
   fills (Proj term k) values rest = ap (λ x. Proj x k) (fills term values rest)
@@ -229,9 +220,8 @@ mutual
   fills_terms NoTerms values rest = refl
   fills_terms (TermThen term terms) values rest =
       let after = holes_in_terms terms values rest in
-      ap (λ x. TermThen x (filled_terms terms (behind term (holes_in term values after)))) (fills term values after) ∙
-      ap (λ x. TermThen (substitute term values) (filled_terms terms x)) (leaves term values after) ∙
-      ap (TermThen (substitute term values)) (fills_terms terms values rest)
+      then_filled TermThen (filled_terms terms) (fills term values after) (leaves term values after)
+      (fills_terms terms values rest)
 
   fills_members : (members : Members) (values : Substitution) (rest : Holes) →
       filled_members members (holes_in_members members values rest) ≡ substitute_members members values
@@ -239,21 +229,16 @@ mutual
   fills_members (MemberThen name parameters body type members) values rest =
       let inner = without parameters values in
       let after = holes_in_members members values rest in
-      ap (λ x. MemberThen name parameters x type (filled_members members (behind body (holes_in body inner after))))
-      (fills body inner after) ∙
-      ap (λ x. MemberThen name parameters (substitute body inner) type (filled_members members x))
-      (leaves body inner after) ∙
-      ap (MemberThen name parameters (substitute body inner) type) (fills_members members values rest)
+      then_filled (λ x y. MemberThen name parameters x type y) (filled_members members) (fills body inner after)
+      (leaves body inner after) (fills_members members values rest)
 
   fills_bindings : (bindings : Bindings) (values : Substitution) (rest : Holes) →
       filled_bindings bindings (holes_in_bindings bindings values rest) ≡ substitute_bindings bindings values
   fills_bindings NoBindings values rest = refl
   fills_bindings (BindingThen name bound bindings) values rest =
       let after = holes_in_bindings bindings values rest in
-      ap (λ x. BindingThen name x (filled_bindings bindings (behind bound (holes_in bound values after))))
-      (fills bound values after) ∙
-      ap (λ x. BindingThen name (substitute bound values) (filled_bindings bindings x)) (leaves bound values after) ∙
-      ap (BindingThen name (substitute bound values)) (fills_bindings bindings values rest)
+      then_filled (BindingThen name) (filled_bindings bindings) (fills bound values after) (leaves bound values after)
+      (fills_bindings bindings values rest)
 
 -- ---- a stack of holes
 

@@ -21,19 +21,18 @@ some_is_none A e = cc
 
 -- a part that is no value takes the step, in its place
 pub part_steps : {A B V : Type 0} (place : A → B) (option : Option V) (go : V → Outcome B) (outcome : Outcome A)
-    (old : A) (store : Store) (world : WorldState) (d : After A) → is_some option ≡ false →
-    after outcome old store world ≡ d →
-    after (if_some option go (inside place outcome)) (place old) store world ≡ after_inside place d
-part_steps place (Some v) go outcome old store world d e f = absurd (none_is_some v e)
-part_steps place None go outcome old store world d e f =
-    after_of_inside place outcome old store world ∙ ap (after_inside place) f
+    (old : A) (store : Store) (world : WorldState) → is_some option ≡ false →
+    after (if_some option go (inside place outcome)) (place old) store world
+    ≡ after_inside place (after outcome old store world)
+part_steps place (Some v) go outcome old store world e = absurd (none_is_some v e)
+part_steps place None go outcome old store world e = after_of_inside place outcome old store world
 
 -- where the part is a value, it is the redex that takes the step
 pub redex_steps : {B V : Type 0} (option : Option V) (go : V → Outcome B) (other : Outcome B) (old : B)
-    (store : Store) (world : WorldState) (d : After B) → is_some option ≡ true →
-    after (if_some option go Stuck) old store world ≡ d → after (if_some option go other) old store world ≡ d
-redex_steps (Some v) go other old store world d e f = f
-redex_steps {V = V} None go other old store world d e f = absurd (some_is_none V e)
+    (store : Store) (world : WorldState) → is_some option ≡ true →
+    after (if_some option go other) old store world ≡ after (if_some option go Stuck) old store world
+redex_steps (Some v) go other old store world e = refl
+redex_steps {V = V} None go other old store world e = absurd (some_is_none V e)
 
 -- where the first part is a value, the step is made behind it
 pub passes : {A B V : Type 0} (place : A → B) (option : Option V) (outcome : Outcome A) (other : Outcome B) (old : A)
@@ -45,19 +44,18 @@ passes {V = V} place None outcome other old store world e = absurd (some_is_none
 
 -- a second part that is no value takes the step behind a first one that is
 pub second_steps : {A B V W : Type 0} (place : A → B) (option : Option V) (inner : Option W) (go : V → W → Outcome B)
-    (outcome : Outcome A) (other : Outcome B) (old : A) (store : Store) (world : WorldState) (d : After A) →
-    is_some option ≡ true → is_some inner ≡ false → after outcome old store world ≡ d →
+    (outcome : Outcome A) (other : Outcome B) (old : A) (store : Store) (world : WorldState) →
+    is_some option ≡ true → is_some inner ≡ false →
     after (if_some option (λ v. if_some inner (go v) (inside place outcome)) other) (place old) store world
-    ≡ after_inside place d
-second_steps place (Some v) inner go outcome other old store world d e f h =
-    part_steps place inner (go v) outcome old store world d f h
-second_steps {V = V} place None inner go outcome other old store world d e f h = absurd (some_is_none V e)
+    ≡ after_inside place (after outcome old store world)
+second_steps place (Some v) inner go outcome other old store world e f =
+    part_steps place inner (go v) outcome old store world f
+second_steps {V = V} place None inner go outcome other old store world e f = absurd (some_is_none V e)
 
 -- where both parts are values, it is the redex that takes the step
 pub both_step : {B V W : Type 0} (option : Option V) (inner : Option W) (made waits other : Outcome B) (old : B)
-    (store : Store) (world : WorldState) (d : After B) → is_some option ≡ true → is_some inner ≡ true →
-    after made old store world ≡ d →
-    after (if_some option (λ v. if_some inner (λ w. made) waits) other) old store world ≡ d
-both_step (Some v) (Some w) made waits other old store world d e f h = h
-both_step {W = W} (Some v) None made waits other old store world d e f h = absurd (some_is_none W f)
-both_step {V = V} None inner made waits other old store world d e f h = absurd (some_is_none V e)
+    (store : Store) (world : WorldState) → is_some option ≡ true → is_some inner ≡ true →
+    after (if_some option (λ v. if_some inner (λ w. made) waits) other) old store world ≡ after made old store world
+both_step (Some v) (Some w) made waits other old store world e f = refl
+both_step {W = W} (Some v) None made waits other old store world e f = absurd (some_is_none W f)
+both_step {V = V} None inner made waits other old store world e f = absurd (some_is_none V e)

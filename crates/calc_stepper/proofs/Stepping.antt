@@ -6,7 +6,6 @@ use Rattle.std.specs.Prelude.{IfOk}
 use Rattle.grift_base.specs.declared.lists.OutOfMemory.{OutOfMemory}
 use Rattle.calc_stepper.specs.declared.moves.Moved.{Moved}
 use Rattle.calc_stepper.specs.declared.moves.Moved.TheVariants.{Stuck as IsStuck}
-use Rattle.calc_stepper.specs.Lists.{terms_onto, bindings_onto}
 use Rattle.std.specs.Prelude.{Option, Some, None, Bool, true, false, is_some, ◌&&◌, ◌||◌, not}
 use Rattle.grift_base.specs.World.{WorldState}
 use Rattle.grift_base.specs.Types.{TypeRows}
@@ -80,25 +79,16 @@ no_redex whole form redex e f g = ap is_redex (sym e) ∙ sym f ∙ g
 abbrev pub come : {A : Type 0} → Moved → A → Store → WorldState → After A
 come moved a store world = record { moved = moved; item = a; store = store; world = world }
 
--- what is answered of a part, put round with the rest
-in_part : {A B : Type 0} (r : Result Moved OutOfMemory) (place : A → B) (part : After A) (whole : After B)
-    (d : Moved → After A) → whole ≡ after_inside place part → IfOk r (λ moved. part ≡ d moved) →
-    IfOk r (λ moved. whole ≡ after_inside place (d moved))
-in_part r place part whole d e h =
-    IfOk-weaker r (λ moved. part ≡ d moved) (λ moved. whole ≡ after_inside place (d moved))
-    (λ moved f. e ∙ ap (after_inside place) f) h
-
 module _ (types : TypeRows) (store : Store) (world : WorldState) where
   -- ---- terms and bindings in order
 
   -- the first that is no value takes the step
-  pub first_steps : (term : Term) (rest : Terms) (d : After Term) → is_some (as_value term) ≡ false →
-      after_step types store world term ≡ d →
-      after_terms types store world (TermThen term rest) ≡ after_inside (λ next. TermThen next rest) d
-  first_steps term rest d e f =
+  pub first_steps : (term : Term) (rest : Terms) → is_some (as_value term) ≡ false →
+      after_terms types store world (TermThen term rest)
+      ≡ after_inside (λ next. TermThen next rest) (after_step types store world term)
+  first_steps term rest e =
       part_steps (λ next. TermThen next rest) (as_value term)
-      (λ v. inside (TermThen term) (step_terms types store world rest)) (step types store world term) term store world
-      d e f
+      (λ v. inside (TermThen term) (step_terms types store world rest)) (step types store world term) term store world e
 
   pub goes_past : (term : Term) (rest : Terms) → is_some (as_value term) ≡ true →
       after_terms types store world (TermThen term rest)
@@ -107,14 +97,13 @@ module _ (types : TypeRows) (store : Store) (world : WorldState) where
       passes (TermThen term) (as_value term) (step_terms types store world rest)
       (inside (λ next. TermThen next rest) (step types store world term)) rest store world e
 
-  pub first_bound_steps : (name : ℕ) (bound : Term) (rest : Bindings) (d : After Term) →
-      is_some (as_value bound) ≡ false → after_step types store world bound ≡ d →
+  pub first_bound_steps : (name : ℕ) (bound : Term) (rest : Bindings) → is_some (as_value bound) ≡ false →
       after_bindings types store world (BindingThen name bound rest)
-      ≡ after_inside (λ next. BindingThen name next rest) d
-  first_bound_steps name bound rest d e f =
+      ≡ after_inside (λ next. BindingThen name next rest) (after_step types store world bound)
+  first_bound_steps name bound rest e =
       part_steps (λ next. BindingThen name next rest) (as_value bound)
       (λ v. inside (BindingThen name bound) (step_bindings types store world rest)) (step types store world bound)
-      bound store world d e f
+      bound store world e
 
   pub goes_past_bound : (name : ℕ) (bound : Term) (rest : Bindings) → is_some (as_value bound) ≡ true →
       after_bindings types store world (BindingThen name bound rest)
@@ -125,53 +114,33 @@ module _ (types : TypeRows) (store : Store) (world : WorldState) where
 
   -- ---- bindings and a body
 
-  pub let_redex_steps : (bindings : Bindings) (body : Term) (d : After Term) →
-      is_some (bound_values bindings) ≡ true →
-      after (let_redex types store world (Let bindings body)) (Let bindings body) store world ≡ d →
-      after_step types store world (Let bindings body) ≡ d
-  let_redex_steps bindings body d e f =
-      redex_steps (bound_values bindings) (let_step types store world bindings body)
-      (inside (λ next. Let next body) (step_bindings types store world bindings)) (Let bindings body) store world d e f
-
-  pub let_part_steps : (bindings : Bindings) (body : Term) (d : After Bindings) →
-      is_some (bound_values bindings) ≡ false → after_bindings types store world bindings ≡ d →
-      after_step types store world (Let bindings body) ≡ after_inside (λ next. Let next body) d
-  let_part_steps bindings body d e f =
+  pub let_part_steps : (bindings : Bindings) (body : Term) → is_some (bound_values bindings) ≡ false →
+      after_step types store world (Let bindings body)
+      ≡ after_inside (λ next. Let next body) (after_bindings types store world bindings)
+  let_part_steps bindings body e =
       part_steps (λ next. Let next body) (bound_values bindings) (let_step types store world bindings body)
-      (step_bindings types store world bindings) bindings store world d e f
+      (step_bindings types store world bindings) bindings store world e
 
   -- ---- calls
 
-  pub call_redex_steps : (function : Term) (arguments : Terms) (d : After Term) →
-      (is_some (as_value function) && is_some (all_values arguments)) ≡ true →
-      after (call_redex types store world (Call function arguments)) (Call function arguments) store world ≡ d →
-      after_step types store world (Call function arguments) ≡ d
-  call_redex_steps function arguments d e f =
-      both_step (as_value function) (all_values arguments) (Goes (Enter function arguments) store world)
-      (inside (Call function) (step_terms types store world arguments))
-      (inside (λ next. Call next arguments) (step types store world function)) (Call function arguments) store world d
-      (left_holds (is_some (as_value function)) (is_some (all_values arguments)) e)
-      (right_holds (is_some (as_value function)) (is_some (all_values arguments)) e) f
-
-  pub called_steps : (function : Term) (arguments : Terms) (d : After Term) → is_some (as_value function) ≡ false →
-      after_step types store world function ≡ d →
-      after_step types store world (Call function arguments) ≡ after_inside (λ next. Call next arguments) d
-  called_steps function arguments d e f =
+  pub called_steps : (function : Term) (arguments : Terms) → is_some (as_value function) ≡ false →
+      after_step types store world (Call function arguments)
+      ≡ after_inside (λ next. Call next arguments) (after_step types store world function)
+  called_steps function arguments e =
       part_steps (λ next. Call next arguments) (as_value function)
       (λ v. if_some (all_values arguments) (λ values. Goes (Enter function arguments) store world)
       (inside (Call function) (step_terms types store world arguments))) (step types store world function) function
-      store world d e f
+      store world e
 
-  pub arguments_step : (function : Term) (arguments : Terms) (d : After Terms) →
-      is_some (as_value function) ≡ true →
+  pub arguments_step : (function : Term) (arguments : Terms) → is_some (as_value function) ≡ true →
       (is_some (as_value function) && is_some (all_values arguments)) ≡ false →
-      after_terms types store world arguments ≡ d →
-      after_step types store world (Call function arguments) ≡ after_inside (Call function) d
-  arguments_step function arguments d e f h =
+      after_step types store world (Call function arguments)
+      ≡ after_inside (Call function) (after_terms types store world arguments)
+  arguments_step function arguments e f =
       second_steps (Call function) (as_value function) (all_values arguments)
       (λ v values. Goes (Enter function arguments) store world) (step_terms types store world arguments)
-      (inside (λ next. Call next arguments) (step types store world function)) arguments store world d e
-      (right_fails (is_some (as_value function)) (is_some (all_values arguments)) e f) h
+      (inside (λ next. Call next arguments) (step types store world function)) arguments store world e
+      (right_fails (is_some (as_value function)) (is_some (all_values arguments)) e f)
 
   some_value : (values : Option (List Value)) (go : List Value → Outcome Term) (o p : Outcome Term) →
       is_some values ≡ true → if_some values go o ≡ if_some values go p
@@ -221,14 +190,13 @@ module _ (types : TypeRows) (store : Store) (world : WorldState) where
   enters_now_step (Some v) arguments o e =
       now_cases v arguments o Stuck (is_some (wrapper_in (Some v))) (is_some (all_values arguments)) refl refl e
 
-  pub enter_redex_steps : (function : Term) (arguments : Terms) (d : After Term) →
-      enters_now (as_value function) arguments ≡ true →
-      after (enter_redex types store world (Enter function arguments)) (Enter function arguments) store world ≡ d →
-      after_step types store world (Enter function arguments) ≡ d
-  enter_redex_steps function arguments d e f =
+  enter_redex_steps : (function : Term) (arguments : Terms) → enters_now (as_value function) arguments ≡ true →
+      after_step types store world (Enter function arguments)
+      ≡ after (enter_redex types store world (Enter function arguments)) (Enter function arguments) store world
+  enter_redex_steps function arguments e =
       ap (λ o. after o (Enter function arguments) store world)
       (enters_now_step (as_value function) arguments
-      (inside (Enter function) (step_terms types store world arguments)) e) ∙ f
+      (inside (Enter function) (step_terms types store world arguments)) e)
 
   no_values : (values : Option (List Value)) (go : List Value → Outcome Term) (o : Outcome Term) →
       is_some values ≡ false → if_some values go o ≡ o
@@ -260,32 +228,23 @@ module _ (types : TypeRows) (store : Store) (world : WorldState) where
   enters_later (Some v) arguments o e =
       later_cases v arguments o (is_some (wrapper_in (Some v))) (is_some (all_values arguments)) refl refl e
 
-  pub enter_part_steps : (function : Term) (arguments : Terms) (d : After Terms) →
-      enters_now (as_value function) arguments ≡ false → after_terms types store world arguments ≡ d →
-      after_step types store world (Enter function arguments) ≡ after_inside (Enter function) d
-  enter_part_steps function arguments d e f =
+  pub enter_part_steps : (function : Term) (arguments : Terms) → enters_now (as_value function) arguments ≡ false →
+      after_step types store world (Enter function arguments)
+      ≡ after_inside (Enter function) (after_terms types store world arguments)
+  enter_part_steps function arguments e =
       ap (λ o. after o (Enter function arguments) store world)
       (enters_later (as_value function) arguments
       (inside (Enter function) (step_terms types store world arguments)) e)
       ∙ after_of_inside (Enter function) (step_terms types store world arguments) arguments store world
-      ∙ ap (after_inside (Enter function)) f
 
   -- ---- choices
 
-  pub if_redex_steps : (condition on_true on_false : Term) (d : After Term) → is_some (as_value condition) ≡ true →
-      after (if_redex types store world (If condition on_true on_false)) (If condition on_true on_false) store world
-      ≡ d → after_step types store world (If condition on_true on_false) ≡ d
-  if_redex_steps condition on_true on_false d e f =
-      redex_steps (as_value condition) (λ v. if_step types store world v on_true on_false)
-      (inside (λ next. If next on_true on_false) (step types store world condition)) (If condition on_true on_false)
-      store world d e f
-
-  pub if_part_steps : (condition on_true on_false : Term) (d : After Term) → is_some (as_value condition) ≡ false →
-      after_step types store world condition ≡ d →
-      after_step types store world (If condition on_true on_false) ≡ after_inside (λ next. If next on_true on_false) d
-  if_part_steps condition on_true on_false d e f =
+  pub if_part_steps : (condition on_true on_false : Term) → is_some (as_value condition) ≡ false →
+      after_step types store world (If condition on_true on_false)
+      ≡ after_inside (λ next. If next on_true on_false) (after_step types store world condition)
+  if_part_steps condition on_true on_false e =
       part_steps (λ next. If next on_true on_false) (as_value condition)
-      (λ v. if_step types store world v on_true on_false) (step types store world condition) condition store world d e f
+      (λ v. if_step types store world v on_true on_false) (step types store world condition) condition store world e
 
   -- ---- sequences
 
@@ -309,9 +268,9 @@ module _ (types : TypeRows) (store : Store) (world : WorldState) where
       first_of_more term (TermThen second rest) (as_value term)
       (λ v. Goes (Seq (TermThen second rest)) store world) (not_so (is_some (as_value term)) e)
 
-  pub seq_part_steps : (terms : Terms) (d : After Terms) → not (waits_for_first terms) ≡ false →
-      after_terms types store world terms ≡ d → after_step types store world (Seq terms) ≡ after_inside Seq d
-  seq_part_steps terms d e f = seq_waits terms (so (waits_for_first terms) e) ∙ ap (after_inside Seq) f
+  pub seq_part_steps : (terms : Terms) → not (waits_for_first terms) ≡ false →
+      after_step types store world (Seq terms) ≡ after_inside Seq (after_terms types store world terms)
+  seq_part_steps terms e = seq_waits terms (so (waits_for_first terms) e)
 
   past_first : (term : Term) (rest : Terms) (value : Option Value) (other : Outcome Term) →
       not (is_some value) ≡ false →
@@ -327,203 +286,62 @@ module _ (types : TypeRows) (store : Store) (world : WorldState) where
       past_first term (TermThen second rest) (as_value term)
       (inside (λ next. Seq (TermThen next (TermThen second rest))) (step types store world term)) e
 
-  pub seq_redex_steps : (terms : Terms) (d : After Term) → not (waits_for_first terms) ≡ true →
-      after (seq_redex types store world (Seq terms)) (Seq terms) store world ≡ d →
-      after_step types store world (Seq terms) ≡ d
-  seq_redex_steps terms d e f =
-      ap (λ o. after o (Seq terms) store world) (seq_goes terms (not_so (waits_for_first terms) e)) ∙ f
+  seq_redex_steps : (terms : Terms) → not (waits_for_first terms) ≡ true →
+      after_step types store world (Seq terms) ≡ after (seq_redex types store world (Seq terms)) (Seq terms) store world
+  seq_redex_steps terms e =
+      ap (λ o. after o (Seq terms) store world) (seq_goes terms (not_so (waits_for_first terms) e))
 
   -- ---- casts and parts
 
-  pub cast_redex_steps : (term : Term) (from to label : ℕ) (d : After Term) → is_some (as_value term) ≡ true →
-      after (cast_redex types store world (Cast term from to label)) (Cast term from to label) store world ≡ d →
-      after_step types store world (Cast term from to label) ≡ d
-  cast_redex_steps term from to label d e f =
-      redex_steps (as_value term) (λ v. cast_step types store world v from to label)
-      (inside (λ next. Cast next from to label) (step types store world term)) (Cast term from to label) store world d
-      e f
-
-  pub cast_part_steps : (term : Term) (from to label : ℕ) (d : After Term) → is_some (as_value term) ≡ false →
-      after_step types store world term ≡ d →
-      after_step types store world (Cast term from to label) ≡ after_inside (λ next. Cast next from to label) d
-  cast_part_steps term from to label d e f =
+  pub cast_part_steps : (term : Term) (from to label : ℕ) → is_some (as_value term) ≡ false →
+      after_step types store world (Cast term from to label)
+      ≡ after_inside (λ next. Cast next from to label) (after_step types store world term)
+  cast_part_steps term from to label e =
       part_steps (λ next. Cast next from to label) (as_value term)
-      (λ v. cast_step types store world v from to label) (step types store world term) term store world d e f
+      (λ v. cast_step types store world v from to label) (step types store world term) term store world e
 
-  pub proj_redex_steps : (term : Term) (k : ℤ) (d : After Term) → is_some (as_value term) ≡ true →
-      after (proj_redex types store world (Proj term k)) (Proj term k) store world ≡ d →
-      after_step types store world (Proj term k) ≡ d
-  proj_redex_steps term k d e f =
-      redex_steps (as_value term) (λ v. proj_step types store world v k)
-      (inside (λ next. Proj next k) (step types store world term)) (Proj term k) store world d e f
-
-  pub proj_part_steps : (term : Term) (k : ℤ) (d : After Term) → is_some (as_value term) ≡ false →
-      after_step types store world term ≡ d →
-      after_step types store world (Proj term k) ≡ after_inside (λ next. Proj next k) d
-  proj_part_steps term k d e f =
+  pub proj_part_steps : (term : Term) (k : ℤ) → is_some (as_value term) ≡ false →
+      after_step types store world (Proj term k)
+      ≡ after_inside (λ next. Proj next k) (after_step types store world term)
+  proj_part_steps term k e =
       part_steps (λ next. Proj next k) (as_value term) (λ v. proj_step types store world v k)
-      (step types store world term) term store world d e f
+      (step types store world term) term store world e
 
-  pub proj_dyn_redex_steps : (term : Term) (k : ℤ) (label : ℕ) (d : After Term) → is_some (as_value term) ≡ true →
-      after (proj_dyn_redex types store world (ProjDyn term k label)) (ProjDyn term k label) store world ≡ d →
-      after_step types store world (ProjDyn term k label) ≡ d
-  proj_dyn_redex_steps term k label d e f =
-      redex_steps (as_value term) (λ v. proj_dyn_step types store world v k label)
-      (inside (λ next. ProjDyn next k label) (step types store world term)) (ProjDyn term k label) store world d e f
-
-  pub proj_dyn_part_steps : (term : Term) (k : ℤ) (label : ℕ) (d : After Term) → is_some (as_value term) ≡ false →
-      after_step types store world term ≡ d →
-      after_step types store world (ProjDyn term k label) ≡ after_inside (λ next. ProjDyn next k label) d
-  proj_dyn_part_steps term k label d e f =
+  pub proj_dyn_part_steps : (term : Term) (k : ℤ) (label : ℕ) → is_some (as_value term) ≡ false →
+      after_step types store world (ProjDyn term k label)
+      ≡ after_inside (λ next. ProjDyn next k label) (after_step types store world term)
+  proj_dyn_part_steps term k label e =
       part_steps (λ next. ProjDyn next k label) (as_value term) (λ v. proj_dyn_step types store world v k label)
-      (step types store world term) term store world d e f
+      (step types store world term) term store world e
 
   -- ---- tuples and operators
 
-  pub tuple_redex_steps : (parts : Terms) (d : After Term) → is_some (all_values parts) ≡ true →
-      after (tuple_redex types store world (Tuple parts)) (Tuple parts) store world ≡ d →
-      after_step types store world (Tuple parts) ≡ d
-  tuple_redex_steps parts d e f =
-      redex_steps (all_values parts) (λ values. Goes (ValueTerm (TupleValue (values_from values))) store world)
-      (inside Tuple (step_terms types store world parts)) (Tuple parts) store world d e f
-
-  pub tuple_part_steps : (parts : Terms) (d : After Terms) → is_some (all_values parts) ≡ false →
-      after_terms types store world parts ≡ d →
-      after_step types store world (Tuple parts) ≡ after_inside Tuple d
-  tuple_part_steps parts d e f =
+  pub tuple_part_steps : (parts : Terms) → is_some (all_values parts) ≡ false →
+      after_step types store world (Tuple parts) ≡ after_inside Tuple (after_terms types store world parts)
+  tuple_part_steps parts e =
       part_steps Tuple (all_values parts) (λ values. Goes (ValueTerm (TupleValue (values_from values))) store world)
-      (step_terms types store world parts) parts store world d e f
+      (step_terms types store world parts) parts store world e
 
-  pub prim_redex_steps : (operator : PrimOp) (operands : Terms) (d : After Term) →
-      is_some (all_values operands) ≡ true →
-      after (prim_redex types store world (Prim operator operands)) (Prim operator operands) store world ≡ d →
-      after_step types store world (Prim operator operands) ≡ d
-  prim_redex_steps operator operands d e f =
-      redex_steps (all_values operands) (operator_step types store world operator)
-      (inside (Prim operator) (step_terms types store world operands)) (Prim operator operands) store world d e f
-
-  pub prim_part_steps : (operator : PrimOp) (operands : Terms) (d : After Terms) →
-      is_some (all_values operands) ≡ false → after_terms types store world operands ≡ d →
-      after_step types store world (Prim operator operands) ≡ after_inside (Prim operator) d
-  prim_part_steps operator operands d e f =
+  pub prim_part_steps : (operator : PrimOp) (operands : Terms) → is_some (all_values operands) ≡ false →
+      after_step types store world (Prim operator operands)
+      ≡ after_inside (Prim operator) (after_terms types store world operands)
+  prim_part_steps operator operands e =
       part_steps (Prim operator) (all_values operands) (operator_step types store world operator)
-      (step_terms types store world operands) operands store world d e f
+      (step_terms types store world operands) operands store world e
 
   -- ---- what a call answers of the part that takes the step
 
-  pub let_part : (whole : Term) (redex : Bool) (bindings : Bindings) (body : Term) (r : Result Moved OutOfMemory)
-      (d : Moved → After Bindings) → whole ≡ Let bindings body → redex ≡ is_redex whole → redex ≡ false →
-      IfOk r (λ moved. after_bindings types store world bindings ≡ d moved) →
-      IfOk r (λ moved. after_step types store world whole ≡ after_inside (λ next. Let next body) (d moved))
-  let_part whole redex bindings body r d e f g h =
-      in_part r (λ next. Let next body) (after_bindings types store world bindings)
-      (after_step types store world whole) d
-      (ap (after_step types store world) e
-      ∙ let_part_steps bindings body (after_bindings types store world bindings) (no_redex whole
-      (Let bindings body) redex e f g) refl) h
-
-  pub called_part : (whole : Term) (redex : Bool) (function : Term) (arguments : Terms) (r : Result Moved OutOfMemory)
-      (d : Moved → After Term) → whole ≡ Call function arguments → redex ≡ is_redex whole → redex ≡ false →
-      is_some (as_value function) ≡ false →
-      IfOk r (λ moved. after_step types store world function ≡ d moved) →
-      IfOk r (λ moved. after_step types store world whole ≡ after_inside (λ next. Call next arguments) (d moved))
-  called_part whole redex function arguments r d e f g v h =
-      in_part r (λ next. Call next arguments) (after_step types store world function)
-      (after_step types store world whole) d
-      (ap (after_step types store world) e
-      ∙ called_steps function arguments (after_step types store world function) v refl) h
-
-  pub arguments_part : (whole : Term) (redex : Bool) (function : Term) (arguments : Terms)
-      (r : Result Moved OutOfMemory)
-      (d : Moved → After Terms) → whole ≡ Call function arguments → redex ≡ is_redex whole → redex ≡ false →
-      is_some (as_value function) ≡ true →
-      IfOk r (λ moved. after_terms types store world arguments ≡ d moved) →
-      IfOk r (λ moved. after_step types store world whole ≡ after_inside (Call function) (d moved))
-  arguments_part whole redex function arguments r d e f g v h =
-      in_part r (Call function) (after_terms types store world arguments) (after_step types store world whole) d
-      (ap (after_step types store world) e
-      ∙ arguments_step function arguments (after_terms types store world arguments) v (no_redex whole
-      (Call function arguments) redex e f g) refl) h
-
-  pub enter_part : (whole : Term) (redex : Bool) (function : Term) (arguments : Terms) (r : Result Moved OutOfMemory)
-      (d : Moved → After Terms) → whole ≡ Enter function arguments → redex ≡ is_redex whole → redex ≡ false →
-      IfOk r (λ moved. after_terms types store world arguments ≡ d moved) →
-      IfOk r (λ moved. after_step types store world whole ≡ after_inside (Enter function) (d moved))
-  enter_part whole redex function arguments r d e f g h =
-      in_part r (Enter function) (after_terms types store world arguments) (after_step types store world whole) d
-      (ap (after_step types store world) e
-      ∙ enter_part_steps function arguments (after_terms types store world arguments) (no_redex whole
-      (Enter function arguments) redex e f g) refl) h
-
-  pub if_part : (whole : Term) (redex : Bool) (condition on_true on_false : Term) (r : Result Moved OutOfMemory)
-      (d : Moved → After Term) → whole ≡ If condition on_true on_false → redex ≡ is_redex whole → redex ≡ false →
-      IfOk r (λ moved. after_step types store world condition ≡ d moved) →
-      IfOk r (λ moved. after_step types store world whole ≡ after_inside (λ next. If next on_true on_false) (d moved))
-  if_part whole redex condition on_true on_false r d e f g h =
-      in_part r (λ next. If next on_true on_false) (after_step types store world condition)
-      (after_step types store world whole) d
-      (ap (after_step types store world) e
-      ∙ if_part_steps condition on_true on_false (after_step types store world condition) (no_redex whole
-      (If condition on_true on_false) redex e f g) refl) h
-
-  pub seq_part : (whole : Term) (redex : Bool) (terms : Terms) (r : Result Moved OutOfMemory)
-      (d : Moved → After Terms) → whole ≡ Seq terms → redex ≡ is_redex whole → redex ≡ false →
-      IfOk r (λ moved. after_terms types store world terms ≡ d moved) →
-      IfOk r (λ moved. after_step types store world whole ≡ after_inside Seq (d moved))
-  seq_part whole redex terms r d e f g h =
-      in_part r Seq (after_terms types store world terms) (after_step types store world whole) d
-      (ap (after_step types store world) e
-      ∙ seq_part_steps terms (after_terms types store world terms) (no_redex whole (Seq terms) redex e f g) refl) h
-
-  pub cast_part : (whole : Term) (redex : Bool) (term : Term) (from to label : ℕ) (r : Result Moved OutOfMemory)
-      (d : Moved → After Term) → whole ≡ Cast term from to label → redex ≡ is_redex whole → redex ≡ false →
-      IfOk r (λ moved. after_step types store world term ≡ d moved) →
-      IfOk r (λ moved. after_step types store world whole ≡ after_inside (λ next. Cast next from to label) (d moved))
-  cast_part whole redex term from to label r d e f g h =
-      in_part r (λ next. Cast next from to label) (after_step types store world term)
-      (after_step types store world whole) d
-      (ap (after_step types store world) e
-      ∙ cast_part_steps term from to label (after_step types store world term) (no_redex whole
-      (Cast term from to label) redex e f g) refl) h
-
-  pub proj_part : (whole : Term) (redex : Bool) (term : Term) (k : ℤ) (r : Result Moved OutOfMemory)
-      (d : Moved → After Term) → whole ≡ Proj term k → redex ≡ is_redex whole → redex ≡ false →
-      IfOk r (λ moved. after_step types store world term ≡ d moved) →
-      IfOk r (λ moved. after_step types store world whole ≡ after_inside (λ next. Proj next k) (d moved))
-  proj_part whole redex term k r d e f g h =
-      in_part r (λ next. Proj next k) (after_step types store world term) (after_step types store world whole) d
-      (ap (after_step types store world) e
-      ∙ proj_part_steps term k (after_step types store world term) (no_redex whole (Proj term k) redex e f g) refl) h
-
-  pub proj_dyn_part : (whole : Term) (redex : Bool) (term : Term) (k : ℤ) (label : ℕ) (r : Result Moved OutOfMemory)
-      (d : Moved → After Term) → whole ≡ ProjDyn term k label → redex ≡ is_redex whole → redex ≡ false →
-      IfOk r (λ moved. after_step types store world term ≡ d moved) →
-      IfOk r (λ moved. after_step types store world whole ≡ after_inside (λ next. ProjDyn next k label) (d moved))
-  proj_dyn_part whole redex term k label r d e f g h =
-      in_part r (λ next. ProjDyn next k label) (after_step types store world term)
-      (after_step types store world whole) d
-      (ap (after_step types store world) e
-      ∙ proj_dyn_part_steps term k label (after_step types store world term) (no_redex whole
-      (ProjDyn term k label) redex e f g) refl) h
-
-  pub tuple_part : (whole : Term) (redex : Bool) (parts : Terms) (r : Result Moved OutOfMemory)
-      (d : Moved → After Terms) → whole ≡ Tuple parts → redex ≡ is_redex whole → redex ≡ false →
-      IfOk r (λ moved. after_terms types store world parts ≡ d moved) →
-      IfOk r (λ moved. after_step types store world whole ≡ after_inside Tuple (d moved))
-  tuple_part whole redex parts r d e f g h =
-      in_part r Tuple (after_terms types store world parts) (after_step types store world whole) d
-      (ap (after_step types store world) e
-      ∙ tuple_part_steps parts (after_terms types store world parts) (no_redex whole (Tuple parts) redex e f g) refl) h
-
-  pub prim_part : (whole : Term) (redex : Bool) (operator : PrimOp) (operands : Terms) (r : Result Moved OutOfMemory)
-      (d : Moved → After Terms) → whole ≡ Prim operator operands → redex ≡ is_redex whole → redex ≡ false →
-      IfOk r (λ moved. after_terms types store world operands ≡ d moved) →
-      IfOk r (λ moved. after_step types store world whole ≡ after_inside (Prim operator) (d moved))
-  prim_part whole redex operator operands r d e f g h =
-      in_part r (Prim operator) (after_terms types store world operands) (after_step types store world whole) d
-      (ap (after_step types store world) e
-      ∙ prim_part_steps operator operands (after_terms types store world operands) (no_redex whole
-      (Prim operator operands) redex e f g) refl) h
+  -- where the whole of this form is no redex, its step is that of the part, in its place
+  pub part_answers : {A : Type 0} (whole form : Term) (place : A → Term) (part : After A) (redex : Bool)
+      (r : Result Moved OutOfMemory) (d : Moved → After A) → whole ≡ form → redex ≡ is_redex whole → redex ≡ false →
+      (is_redex form ≡ false → after_step types store world form ≡ after_inside place part) →
+      IfOk r (λ moved. part ≡ d moved) →
+      IfOk r (λ moved. after_step types store world whole ≡ after_inside place (d moved))
+  part_answers whole form place part redex r d e f g steps h =
+      IfOk-weaker r (λ moved. part ≡ d moved)
+      (λ moved. after_step types store world whole ≡ after_inside place (d moved))
+      (λ moved k. ap (after_step types store world) e ∙ steps (no_redex whole form redex e f g)
+      ∙ ap (after_inside place) k) h
 
   -- ---- what a call answers of the redex
 
@@ -552,31 +370,35 @@ module _ (types : TypeRows) (store : Store) (world : WorldState) where
   redex_steps_so (Lambda parameters body type) e = refl
   redex_steps_so (Group group body) e = refl
   redex_steps_so (Let bindings body) e =
-      let_redex_steps bindings body (after (redex_outcome (Let bindings body)) (Let bindings body) store world) e refl
+      redex_steps (bound_values bindings) (let_step types store world bindings body)
+      (inside (λ next. Let next body) (step_bindings types store world bindings)) (Let bindings body) store world e
   redex_steps_so (Call function arguments) e =
-      call_redex_steps function arguments
-      (after (redex_outcome (Call function arguments)) (Call function arguments) store world) e refl
-  redex_steps_so (Enter function arguments) e =
-      enter_redex_steps function arguments
-      (after (redex_outcome (Enter function arguments)) (Enter function arguments) store world) e refl
+      both_step (as_value function) (all_values arguments) (Goes (Enter function arguments) store world)
+      (inside (Call function) (step_terms types store world arguments))
+      (inside (λ next. Call next arguments) (step types store world function)) (Call function arguments) store world
+      (left_holds (is_some (as_value function)) (is_some (all_values arguments)) e)
+      (right_holds (is_some (as_value function)) (is_some (all_values arguments)) e)
+  redex_steps_so (Enter function arguments) e = enter_redex_steps function arguments e
   redex_steps_so (If condition on_true on_false) e =
-      if_redex_steps condition on_true on_false
-      (after (redex_outcome (If condition on_true on_false)) (If condition on_true on_false) store world) e refl
-  redex_steps_so (Seq terms) e =
-      seq_redex_steps terms (after (redex_outcome (Seq terms)) (Seq terms) store world) e refl
+      redex_steps (as_value condition) (λ v. if_step types store world v on_true on_false)
+      (inside (λ next. If next on_true on_false) (step types store world condition)) (If condition on_true on_false)
+      store world e
+  redex_steps_so (Seq terms) e = seq_redex_steps terms e
   redex_steps_so (Cast term from to label) e =
-      cast_redex_steps term from to label
-      (after (redex_outcome (Cast term from to label)) (Cast term from to label) store world) e refl
+      redex_steps (as_value term) (λ v. cast_step types store world v from to label)
+      (inside (λ next. Cast next from to label) (step types store world term)) (Cast term from to label) store world e
   redex_steps_so (Proj term k) e =
-      proj_redex_steps term k (after (redex_outcome (Proj term k)) (Proj term k) store world) e refl
+      redex_steps (as_value term) (λ v. proj_step types store world v k)
+      (inside (λ next. Proj next k) (step types store world term)) (Proj term k) store world e
   redex_steps_so (ProjDyn term k label) e =
-      proj_dyn_redex_steps term k label
-      (after (redex_outcome (ProjDyn term k label)) (ProjDyn term k label) store world) e refl
+      redex_steps (as_value term) (λ v. proj_dyn_step types store world v k label)
+      (inside (λ next. ProjDyn next k label) (step types store world term)) (ProjDyn term k label) store world e
   redex_steps_so (Tuple parts) e =
-      tuple_redex_steps parts (after (redex_outcome (Tuple parts)) (Tuple parts) store world) e refl
+      redex_steps (all_values parts) (λ values. Goes (ValueTerm (TupleValue (values_from values))) store world)
+      (inside Tuple (step_terms types store world parts)) (Tuple parts) store world e
   redex_steps_so (Prim operator operands) e =
-      prim_redex_steps operator operands
-      (after (redex_outcome (Prim operator operands)) (Prim operator operands) store world) e refl
+      redex_steps (all_values operands) (operator_step types store world operator)
+      (inside (Prim operator) (step_terms types store world operands)) (Prim operator operands) store world e
   redex_steps_so (ValueTerm v) e = refl
 
   -- of a term of a form whose step is this one
@@ -629,87 +451,44 @@ module _ (types : TypeRows) (store : Store) (world : WorldState) where
       (λ moved. after_step types store world whole ≡ d moved)
       (λ moved k. step_of_form whole form go e f g ∙ k) h
 
-  -- ---- along lists
+  -- ---- along lists of terms, or of bindings
 
   -- the part at which the loop has come takes the step
-  pub terms_arrive : (s : Store) (w : WorldState) (whole done rest left out : Terms) (first next : Term) (s' : Store)
-      (w' : WorldState) (r : Result Moved OutOfMemory) → store ≡ s → world ≡ w → left ≡ TermThen first rest →
-      is_some (as_value first) ≡ false →
-      after_inside (terms_onto done) (after_terms types store world left) ≡ after_terms types store world whole →
-      out ≡ terms_onto done (TermThen next rest) →
+  pub arrives : {L : Type 0} (all : Store → WorldState → L → After L) (onto : L → L) (put : Term → L) (s : Store)
+      (w : WorldState) (whole left out : L) (first next : Term) (s' : Store) (w' : WorldState)
+      (r : Result Moved OutOfMemory) → store ≡ s → world ≡ w → left ≡ put first →
+      all store world (put first) ≡ after_inside put (after_step types store world first) →
+      after_inside onto (all store world left) ≡ all store world whole → out ≡ onto (put next) →
       IfOk r (λ moved. after_step types store world first
       ≡ record { moved = moved; item = next; store = s'; world = w' }) →
-      IfOk r (λ moved. after_terms types s w whole ≡ record { moved = moved; item = out; store = s'; world = w' })
-  terms_arrive s w whole done rest left out first next s' w' r es ew el v p eo h =
+      IfOk r (λ moved. all s w whole ≡ record { moved = moved; item = out; store = s'; world = w' })
+  arrives all onto put s w whole left out first next s' w' r es ew el steps p eo h =
       IfOk-weaker r
       (λ moved. after_step types store world first ≡ record { moved = moved; item = next; store = s'; world = w' })
-      (λ moved. after_terms types s w whole ≡ record { moved = moved; item = out; store = s'; world = w' })
-      (λ moved k. ap (λ x. after_terms types x w whole) (sym es) ∙ ap (λ x. after_terms types store x whole) (sym ew)
-      ∙ sym p ∙ ap (λ x. after_inside (terms_onto done) (after_terms types store world x)) el
-      ∙ ap (after_inside (terms_onto done))
-      (first_steps first rest (record { moved = moved; item = next; store = s'; world = w' }) v k)
-      ∙ ap (λ x. come moved x s' w') (sym eo)) h
+      (λ moved. all s w whole ≡ record { moved = moved; item = out; store = s'; world = w' })
+      (λ moved k. ap (λ x. all x w whole) (sym es) ∙ ap (λ x. all store x whole) (sym ew)
+      ∙ sym p ∙ ap (λ x. after_inside onto (all store world x)) el
+      ∙ ap (after_inside onto) (steps ∙ ap (after_inside put) k) ∙ ap (λ x. come moved x s' w') (sym eo)) h
 
-  pub terms_pass : (done done' left left' rest : Terms) (first : Term) (d : After Terms) →
-      done' ≡ TermThen first done → left' ≡ rest → left ≡ TermThen first rest → is_some (as_value first) ≡ true →
-      after_inside (terms_onto done) (after_terms types store world left) ≡ d →
-      after_inside (terms_onto done') (after_terms types store world left') ≡ d
-  terms_pass done done' left left' rest first d e f g v p =
-      ap (λ x. after_inside (terms_onto x) (after_terms types store world left')) e
-      ∙ ap (λ x. after_inside (terms_onto (TermThen first done)) (after_terms types store world x)) f
-      ∙ sym (ap (after_inside (terms_onto done)) (goes_past first rest v))
-      ∙ sym (ap (λ x. after_inside (terms_onto done) (after_terms types store world x)) g) ∙ p
+  -- a value is gone past
+  pub goes_along : {L : Type 0} (all : L → After L) (onto : L → L → L) (put : L → L) (done done' left left' rest : L)
+      (d : After L) → done' ≡ put done → left' ≡ rest → left ≡ put rest →
+      all (put rest) ≡ after_inside put (all rest) → ((x : L) → onto done (put x) ≡ onto (put done) x) →
+      after_inside (onto done) (all left) ≡ d → after_inside (onto done') (all left') ≡ d
+  goes_along all onto put done done' left left' rest d e f g past turned p =
+      ap (λ x. after_inside (onto x) (all left')) e
+      ∙ ap (λ x. after_inside (onto (put done)) (all x)) f
+      ∙ sym (ap (λ x. come (all rest).moved x (all rest).store (all rest).world) (turned (all rest).item))
+      ∙ sym (ap (after_inside (onto done)) past)
+      ∙ sym (ap (λ x. after_inside (onto done) (all x)) g) ∙ p
 
-  pub terms_end : (s : Store) (w : WorldState) (whole done left out : Terms) → store ≡ s → world ≡ w →
-      left ≡ NoTerms →
-      after_inside (terms_onto done) (after_terms types store world left) ≡ after_terms types store world whole →
-      out ≡ terms_onto done NoTerms →
-      after_terms types s w whole ≡ record { moved = IsStuck; item = out; store = store; world = world }
-  terms_end s w whole done left out es ew el p eo =
-      ap (λ x. after_terms types x w whole) (sym es) ∙ ap (λ x. after_terms types store x whole) (sym ew)
-      ∙ sym p ∙ ap (λ x. after_inside (terms_onto done) (after_terms types store world x)) el
-      ∙ ap (λ x. come IsStuck x store world) (sym eo)
-
-  -- the same for bindings
-
-  pub bindings_arrive : (s : Store) (w : WorldState) (whole done rest left out : Bindings) (name : ℕ)
-      (first next : Term) (s' : Store) (w' : WorldState) (r : Result Moved OutOfMemory) → store ≡ s → world ≡ w →
-      left ≡ BindingThen name first rest → is_some (as_value first) ≡ false →
-      after_inside (bindings_onto done) (after_bindings types store world left)
-      ≡ after_bindings types store world whole →
-      out ≡ bindings_onto done (BindingThen name next rest) →
-      IfOk r (λ moved. after_step types store world first
-      ≡ record { moved = moved; item = next; store = s'; world = w' }) →
-      IfOk r (λ moved. after_bindings types s w whole ≡ record { moved = moved; item = out; store = s'; world = w' })
-  bindings_arrive s w whole done rest left out name first next s' w' r es ew el v p eo h =
-      IfOk-weaker r
-      (λ moved. after_step types store world first ≡ record { moved = moved; item = next; store = s'; world = w' })
-      (λ moved. after_bindings types s w whole ≡ record { moved = moved; item = out; store = s'; world = w' })
-      (λ moved k. ap (λ x. after_bindings types x w whole) (sym es)
-      ∙ ap (λ x. after_bindings types store x whole) (sym ew)
-      ∙ sym p ∙ ap (λ x. after_inside (bindings_onto done) (after_bindings types store world x)) el
-      ∙ ap (after_inside (bindings_onto done))
-      (first_bound_steps name first rest (record { moved = moved; item = next; store = s'; world = w' }) v k)
-      ∙ ap (λ x. come moved x s' w') (sym eo)) h
-
-  pub bindings_pass : (done done' left left' rest : Bindings) (name : ℕ) (first : Term) (d : After Bindings) →
-      done' ≡ BindingThen name first done → left' ≡ rest → left ≡ BindingThen name first rest →
-      is_some (as_value first) ≡ true →
-      after_inside (bindings_onto done) (after_bindings types store world left) ≡ d →
-      after_inside (bindings_onto done') (after_bindings types store world left') ≡ d
-  bindings_pass done done' left left' rest name first d e f g v p =
-      ap (λ x. after_inside (bindings_onto x) (after_bindings types store world left')) e
-      ∙ ap (λ x. after_inside (bindings_onto (BindingThen name first done)) (after_bindings types store world x)) f
-      ∙ sym (ap (after_inside (bindings_onto done)) (goes_past_bound name first rest v))
-      ∙ sym (ap (λ x. after_inside (bindings_onto done) (after_bindings types store world x)) g) ∙ p
-
-  pub bindings_end : (s : Store) (w : WorldState) (whole done left out : Bindings) → store ≡ s → world ≡ w →
-      left ≡ NoBindings →
-      after_inside (bindings_onto done) (after_bindings types store world left)
-      ≡ after_bindings types store world whole →
-      out ≡ bindings_onto done NoBindings →
-      after_bindings types s w whole ≡ record { moved = IsStuck; item = out; store = store; world = world }
-  bindings_end s w whole done left out es ew el p eo =
-      ap (λ x. after_bindings types x w whole) (sym es) ∙ ap (λ x. after_bindings types store x whole) (sym ew)
-      ∙ sym p ∙ ap (λ x. after_inside (bindings_onto done) (after_bindings types store world x)) el
+  -- nothing is left, so there is no step
+  pub comes_to_end : {L : Type 0} (all : Store → WorldState → L → After L) (onto : L → L) (s : Store) (w : WorldState)
+      (whole left none out : L) → store ≡ s → world ≡ w → left ≡ none →
+      all store world none ≡ record { moved = IsStuck; item = none; store = store; world = world } →
+      after_inside onto (all store world left) ≡ all store world whole → out ≡ onto none →
+      all s w whole ≡ record { moved = IsStuck; item = out; store = store; world = world }
+  comes_to_end all onto s w whole left none out es ew el stuck p eo =
+      ap (λ x. all x w whole) (sym es) ∙ ap (λ x. all store x whole) (sym ew)
+      ∙ sym p ∙ ap (λ x. after_inside onto (all store world x)) el ∙ ap (after_inside onto) stuck
       ∙ ap (λ x. come IsStuck x store world) (sym eo)
