@@ -1,9 +1,9 @@
 -- What stands after a step of a part, in the part's place.
-use Rattle.std.proofs.Common.{◌≡◌, refl, ap, ◌∙◌}
+use Rattle.std.proofs.Common.{◌≡◌, refl}
 use Rattle.std.specs.Prelude.{Option, Some, None, is_some, true, false}
 use Rattle.grift_base.specs.World.{WorldState}
 use Rattle.core_calc.specs.Outcome.{Store, Outcome, Goes, Blames, Traps, Stuck, inside, if_some}
-use Rattle.calc_stepper.specs.Moves.{After, after, after_inside}
+use Rattle.calc_stepper.specs.Moves.{after, after_inside}
 
 pub after_of_inside : {A B : Type 0} (place : A → B) (outcome : Outcome A) (old : A) (store : Store)
     (world : WorldState) → after (inside place outcome) (place old) store world

@@ -12,7 +12,7 @@ use Rattle.grift_base.specs.Types.{TypeRows}
 use Rattle.grift_base.specs.declared.operators.PrimOp.{PrimOp}
 use Rattle.core_calc.specs.Terms.{Term, Terms, Bindings, Value, IntValue, BoolValue, UnitValue, FunValue, MemberValue}
 use Rattle.core_calc.specs.Terms.{TupleValue, LocValue, WrapValue, InjectValue, IntLit, BoolLit, UnitLit}
-use Rattle.core_calc.specs.Terms.{Var, Lambda, Group, NoBindings, Let, Call, Enter, If, Seq, Cast, Proj}
+use Rattle.core_calc.specs.Terms.{Var, Lambda, Group, Let, Call, Enter, If, Seq, Cast, Proj}
 use Rattle.core_calc.specs.Terms.{ProjDyn, Tuple, Prim, ValueTerm, NoTerms, TermThen, BindingThen, as_value}
 use Rattle.core_calc.specs.Terms.{all_values, bound_values, values_from}
 use Rattle.core_calc.specs.Outcome.{Store, Outcome, Goes, Stuck, inside, if_some, with_some}
