@@ -15,9 +15,8 @@ use Rattle.grift_base.specs.declared.verdicts.AnswerKind.TheVariants.{Int, Bool 
 use Rattle.grift_base.specs.declared.verdicts.Trap.TheVariants.{ZeroDivisor, Index, Length, Input}
 use Rattle.grift_base.specs.declared.verdicts.Verdict.{Verdict}
 use Rattle.grift_base.specs.declared.verdicts.Verdict.TheVariants.{Answer as AnswerVerdict, Blame, Trap as TrapVerdict}
-use Rattle.core_calc.specs.Terms.{Term, Terms, Members, IntLit, BoolLit, Var, Lambda, Group, Let, Call, If, Seq, Cast}
-use Rattle.core_calc.specs.Terms.{Proj, ProjDyn, Tuple, Prim, NoTerms, TermThen, NoMembers, MemberThen}
-use Rattle.core_calc.specs.Terms.{NoBindings, BindingThen, terms_from}
+use Rattle.core_calc.specs.Terms.{Term, Members, IntLit, BoolLit, Var, Lambda, Group, Call, If, Cast, Proj, ProjDyn}
+use Rattle.core_calc.specs.Terms.{Tuple, Prim, NoTerms, NoMembers, MemberThen}
 use Rattle.core_calc.specs.Calculus.{answer, calc}
 use Rattle.core_calc.proofs.ExampleTerms.{int, seq, one, two, three, let_one}
 

@@ -16,9 +16,8 @@ use Rattle.grift_base.specs.declared.verdicts.Trap.TheVariants.{ZeroDivisor, Ind
 use Rattle.grift_base.specs.declared.verdicts.Verdict.{Verdict}
 use Rattle.grift_base.specs.declared.verdicts.Verdict.TheVariants.{Answer as AnswerVerdict, Blame, Trap as TrapVerdict}
 use Rattle.std.specs.Prelude.{ℤ}
-use Rattle.core_calc.specs.Terms.{Term, Terms, Members, IntLit, BoolLit, Var, Lambda, Group, Let, Call, Enter, If, Seq}
-use Rattle.core_calc.specs.Terms.{Cast, Proj, ProjDyn, Tuple, Prim, NoTerms, TermThen, NoMembers, MemberThen}
-use Rattle.core_calc.specs.Terms.{NoBindings, BindingThen, terms_from}
+use Rattle.core_calc.specs.Terms.{Term, Members, IntLit, BoolLit, Var, Lambda, Group, Call, Enter, If, Cast, Proj}
+use Rattle.core_calc.specs.Terms.{ProjDyn, Tuple, Prim, NoTerms, NoMembers, MemberThen}
 use Rattle.core_calc.specs.Calculus.{answer, CalcState, calc}
 use Rattle.core_calc.proofs.ExampleTerms.{int, seq, one, two, three, let_one}
 
