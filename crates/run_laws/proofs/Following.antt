@@ -7,13 +7,14 @@ use Rattle.run_laws.specs.Runs.{HasVerdictOf, NeverWrong, NeverExhausted, StaysE
 use Rattle.run_laws.specs.Runs.{Backed, Reached, FollowsBy, Through, Same}
 
 -- having a verdict, and beginning with output, are transitive
-ends_as_trans : {V : Type 0} (a b c : Option (Ending V)) → EndsAs a b → EndsAs b c → EndsAs a c
+pub ends_as_trans : {V : Type 0} (a b c : Option (Ending V)) → EndsAs a b → EndsAs b c → EndsAs a c
 ends_as_trans None b c h k = tt
 ends_as_trans (Some (Verdict v)) b c h k = subst (λ o. EndsAs o c) h k
 ends_as_trans (Some Exhausted) b c h k = tt
 ends_as_trans (Some Wrong) b c h k = absurd h
 
-has_verdict_of_trans : {V : Type 0} (a b c : Option (Ending V)) → HasVerdictOf a b → HasVerdictOf b c → HasVerdictOf a c
+pub has_verdict_of_trans : {V : Type 0} (a b c : Option (Ending V)) → HasVerdictOf a b → HasVerdictOf b c
+    → HasVerdictOf a c
 has_verdict_of_trans a b None h k = tt
 has_verdict_of_trans a b (Some (Verdict v)) h k = subst (λ o. HasVerdictOf a o) k h
 has_verdict_of_trans a b (Some Exhausted) h k = absurd k

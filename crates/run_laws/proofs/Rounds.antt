@@ -37,6 +37,40 @@ module _ {S A V : Type 0} (M : Reduction S A V) (P : S → Type 0) where
       let e : suc (i + j) ≡ suc i + j = omega arith in
       subst (λ n. Along n s s2) e (a.0, a.1, along_then i j (M.step s) s' s2 a.2 b)
 
+-- the first m steps are within j steps, or come k steps behind them
+pub along_or_behind : {P : Type 0} (m j : ℕ) → (m < j → P) → ((k : ℕ) → m ≡ j + k → P) → P
+along_or_behind m j along behind = ⊎_elim along (λ le. behind (m - j) (omega (arith, le))) (cases_lt m j)
+
+-- where no step was made, the index is less
+pub less_left : (n m j k left : ℕ) → m ≡ j + k → (0 < j ⊎ left < n) → (k < m ⊎ ((k ≡ m) × (left < n)))
+less_left n m zero k left e (inl lt) = absurd (omega (arith, lt))
+less_left n m zero k left e (inr lt) = inr (omega (arith, e), lt)
+less_left n m (suc j) k left e q = inl (omega (arith, e))
+
+-- what P says of each number of steps from related states, where Q holds, is shown round by round: by then it is known
+-- for fewer steps, and for as many at a smaller index
+module _ {S T : Type 0} (R : ℕ → S → T → Type 0) (Q : S → Type 0) (P : S → T → ℕ → Type 0) where
+  abbrev pub Earlier : ℕ → ℕ → Type 0
+  Earlier n m =
+      (n1 : ℕ) (s1 : S) (t1 : T) (k : ℕ) → (k < m ⊎ ((k ≡ m) × (n1 < n))) → R n1 s1 t1 → Q s1 → P s1 t1 k
+
+  module _ (by_round : (n : ℕ) (s : S) (t : T) (m : ℕ) → R n s t → Q s → Earlier n m → P s t m) where
+    at_most : (f : ℕ) → ((n : ℕ) (s : S) (t : T) (m : ℕ) → m < f → R n s t → Q s → P s t m)
+        → (z n : ℕ) (s : S) (t : T) (m : ℕ) → n < z → m ≤ f → R n s t → Q s → P s t m
+    at_most f ih zero n s t m lt le r q = absurd (omega (arith, lt))
+    at_most f ih (suc z) n s t m lt le r q =
+        by_round n s t m r q (λ n1 s1 t1 k c r1 q1. ⊎_elim (λ less. ih n1 s1 t1 k (omega (arith, less, le)) r1 q1)
+        (λ x. at_most f ih z n1 s1 t1 k (omega (arith, x.1, lt)) (omega (arith, x.0, le)) r1 q1) c)
+
+    all_below : (f n : ℕ) (s : S) (t : T) (m : ℕ) → m < f → R n s t → Q s → P s t m
+    all_below zero n s t m lt r q = absurd (omega (arith, lt))
+    all_below (suc f) n s t m lt r q =
+        at_most f (λ n1 s1 t1 k less r1 q1. all_below f n1 s1 t1 k less r1 q1) (suc n) n s t m (omega arith)
+        (omega (arith, lt)) r q
+
+    pub by_rounds : (n : ℕ) (s : S) (t : T) (m : ℕ) → R n s t → Q s → P s t m
+    by_rounds n s t m r q = all_below (suc m) n s t m (omega arith) r q
+
 module _ {S T A B V : Type 0} (M : Reduction S A V) (N : Reduction T B V) (R : ℕ → S → T → Type 0) where
   -- on the way from s to s' a state of either has the output of s or of s'
   abbrev pub Between : S → S → T → Type 0
@@ -218,49 +252,6 @@ module _ {S T A B V : Type 0} (M : Reduction S A V) (N : Reduction T B V) (R : �
         (run_along M (Midway s l.paths.s') l.paths.first_steps s l.paths.s' l.paths.first 0) ∙ l.first_ends
         ∙ ap Some w)
 
-    -- one round back: later rounds are known for fewer steps, or for a smaller index
-    back_round : (n : ℕ) (s : S) (t : T) (m : ℕ) → NeverWrong (reduction_run M s)
-        → ((n1 : ℕ) (s1 : S) (t1 : T) (k : ℕ) → (k < m ⊎ ((k ≡ m) × (n1 < n))) → R n1 s1 t1
-        → NeverWrong (reduction_run M s1) → Backed s1 t1 k) → Goes n s t → Backed s t m
-    back_round n s t m nw ih (inl r) =
-        ⊎_elim (λ lt. back_mid s t r.paths m lt)
-        (λ le. back_later s t r.paths m (m - r.paths.second_steps) (omega (arith, le))
-        (ih r.left r.paths.s' r.paths.t' (m - r.paths.second_steps) (less r.paths.second_steps le r.second_moves)
-        r.related (wrong_later s r.paths.s' r.paths.first_steps (Midway s r.paths.s') r.paths.first nw)))
-        (cases_lt m r.paths.second_steps)
-      where
-        less_on : (j left : ℕ) → j ≤ m → (0 < j ⊎ j ≡ 0) → (0 < j ⊎ left < n) → (m - j < m ⊎ ((m - j ≡ m) × (left < n)))
-        less_on j left le (inl lt) q = inl (omega (arith, lt, le))
-        less_on j left le (inr z) (inl lt) = absurd (omega (arith, z, lt))
-        less_on j left le (inr z) (inr lt) = inr (omega (arith, z), lt)
-
-        zero_or : (j : ℕ) → (0 < j ⊎ j ≡ 0)
-        zero_or zero = inr refl
-        zero_or (suc j) = inl (omega arith)
-
-        less : (j : ℕ) {left : ℕ} → j ≤ m → (0 < j ⊎ left < n) → (m - j < m ⊎ ((m - j ≡ m) × (left < n)))
-        less j {left = left} le q = less_on j left le (zero_or j) q
-    back_round n s t m nw ih (inr (inl l)) =
-        ⊎_elim (λ lt. back_mid s t l.paths m lt)
-        (λ le. back_later s t l.paths m (m - l.paths.second_steps) (omega (arith, le))
-        (ended_at s t l (m - l.paths.second_steps) l.ending (not_wrong s t l nw) l.first_ends l.second_ends))
-        (cases_lt m l.paths.second_steps)
-    back_round n s t m nw ih (inr (inr w)) = absurd (nw w.steps w.wrong)
-
-    back_at : (f : ℕ) → ((n : ℕ) (s : S) (t : T) (m : ℕ) → m < f → R n s t → NeverWrong (reduction_run M s)
-        → Backed s t m) → (z n : ℕ) (s : S) (t : T) (m : ℕ) → n < z → m ≤ f → R n s t → NeverWrong (reduction_run M s)
-        → Backed s t m
-    back_at f ih zero n s t m lt le r nw = absurd (omega (arith, lt))
-    back_at f ih (suc z) n s t m lt le r nw =
-        back_round n s t m nw (λ n1 s1 t1 k c r1 nw1. ⊎_elim (λ less. ih n1 s1 t1 k (omega (arith, less, le)) r1 nw1)
-        (λ q. back_at f ih z n1 s1 t1 k (omega (arith, q.1, lt)) (omega (arith, q.0, le)) r1 nw1) c) (goes n s t r)
-
-    backs : (f n : ℕ) (s : S) (t : T) (m : ℕ) → m < f → R n s t → NeverWrong (reduction_run M s) → Backed s t m
-    backs zero n s t m lt r nw = absurd (omega (arith, lt))
-    backs (suc f) n s t m lt r nw =
-        back_at f (λ n1 s1 t1 k less r1 nw1. backs f n1 s1 t1 k less r1 nw1) (suc n) n s t m (omega arith)
-        (omega (arith, lt)) r nw
-
     abbrev Comes : S → T → ℕ → Type 0
     Comes s t n =
         (m : ℕ) × (IsExhausted (X t m) ⊎ (IsPrefix (Y s n).output (X t m).output
@@ -318,52 +309,37 @@ module _ {S T A B V : Type 0} (M : Reduction S A V) (N : Reduction T B V) (R : �
         some_wrong : (e : Ending V) → Some e ≡ Some Wrong → e ≡ Wrong
         some_wrong e h = cc
 
-    forth_round : (n : ℕ) (s : S) (t : T) (m : ℕ) → NeverWrong (reduction_run M s)
-        → ((n1 : ℕ) (s1 : S) (t1 : T) (k : ℕ) → (k < m ⊎ ((k ≡ m) × (n1 < n))) → R n1 s1 t1
-        → NeverWrong (reduction_run M s1) → Comes s1 t1 k) → Goes n s t → Comes s t m
-    forth_round n s t m nw ih (inl r) =
-        ⊎_elim (λ lt. forth_mid s t r.paths m lt)
-        (λ le. forth_later s t r.paths m (m - r.paths.first_steps) (omega (arith, le))
-        (ih r.left r.paths.s' r.paths.t' (m - r.paths.first_steps) (less r.paths.first_steps le r.first_moves)
-        r.related (wrong_later s r.paths.s' r.paths.first_steps (Midway s r.paths.s') r.paths.first nw)))
-        (cases_lt m r.paths.first_steps)
-      where
-        less_on : (j left : ℕ) → j ≤ m → (0 < j ⊎ j ≡ 0) → (0 < j ⊎ left < n) → (m - j < m ⊎ ((m - j ≡ m) × (left < n)))
-        less_on j left le (inl lt) q = inl (omega (arith, lt, le))
-        less_on j left le (inr z) (inl lt) = absurd (omega (arith, z, lt))
-        less_on j left le (inr z) (inr lt) = inr (omega (arith, z), lt)
+    -- what holds along the steps of either, behind them and at an ending holds from related states
+    module _ (P : S → T → ℕ → Type 0) (steps : (s : S) (t : T) → Paths s t → ℕ)
+        (moves : (n : ℕ) (s : S) (t : T) (r : Round n s t) → 0 < steps s t r.paths ⊎ r.left < n)
+        (along : (s : S) (t : T) (p : Paths s t) (m : ℕ) → m < steps s t p → P s t m)
+        (behind : (s : S) (t : T) (p : Paths s t) (m k : ℕ) → m ≡ steps s t p + k → P p.s' p.t' k → P s t m)
+        (at_end : (s : S) (t : T) (l : LastRound s t) (k : ℕ) (e : Ending V) → e ≢ Wrong → M.ending l.paths.s' ≡ Some e
+        → N.ending l.paths.t' ≡ Some e → P l.paths.s' l.paths.t' k) where
+      by_round : (n : ℕ) (s : S) (t : T) (m : ℕ) → Goes n s t → NeverWrong (Y s)
+          → Earlier R (λ s1. NeverWrong (Y s1)) P n m → P s t m
+      by_round n s t m (inl r) nw ih =
+          along_or_behind m (steps s t r.paths) (λ lt. along s t r.paths m lt)
+          (λ k e. behind s t r.paths m k e (ih r.left r.paths.s' r.paths.t' k
+          (less_left n m (steps s t r.paths) k r.left e (moves n s t r)) r.related
+          (wrong_later s r.paths.s' r.paths.first_steps (Midway s r.paths.s') r.paths.first nw)))
+      by_round n s t m (inr (inl l)) nw ih =
+          along_or_behind m (steps s t l.paths) (λ lt. along s t l.paths m lt)
+          (λ k e. behind s t l.paths m k e
+          (at_end s t l k l.ending (not_wrong s t l nw) l.first_ends l.second_ends))
+      by_round n s t m (inr (inr w)) nw ih = absurd (nw w.steps w.wrong)
 
-        zero_or : (j : ℕ) → (0 < j ⊎ j ≡ 0)
-        zero_or zero = inr refl
-        zero_or (suc j) = inl (omega arith)
-
-        less : (j : ℕ) {left : ℕ} → j ≤ m → (0 < j ⊎ left < n) → (m - j < m ⊎ ((m - j ≡ m) × (left < n)))
-        less j {left = left} le q = less_on j left le (zero_or j) q
-    forth_round n s t m nw ih (inr (inl l)) =
-        ⊎_elim (λ lt. forth_mid s t l.paths m lt)
-        (λ le. forth_later s t l.paths m (m - l.paths.first_steps) (omega (arith, le))
-        (comes_ended s t l (m - l.paths.first_steps) l.ending (not_wrong s t l nw) l.first_ends l.second_ends))
-        (cases_lt m l.paths.first_steps)
-    forth_round n s t m nw ih (inr (inr w)) = absurd (nw w.steps w.wrong)
-
-    forth_at : (f : ℕ) → ((n : ℕ) (s : S) (t : T) (m : ℕ) → m < f → R n s t → NeverWrong (reduction_run M s)
-        → Comes s t m) → (z n : ℕ) (s : S) (t : T) (m : ℕ) → n < z → m ≤ f → R n s t → NeverWrong (reduction_run M s)
-        → Comes s t m
-    forth_at f ih zero n s t m lt le r nw = absurd (omega (arith, lt))
-    forth_at f ih (suc z) n s t m lt le r nw =
-        forth_round n s t m nw (λ n1 s1 t1 k c r1 nw1. ⊎_elim (λ less. ih n1 s1 t1 k (omega (arith, less, le)) r1 nw1)
-        (λ q. forth_at f ih z n1 s1 t1 k (omega (arith, q.1, lt)) (omega (arith, q.0, le)) r1 nw1) c) (goes n s t r)
-
-    forths : (f n : ℕ) (s : S) (t : T) (m : ℕ) → m < f → R n s t → NeverWrong (reduction_run M s) → Comes s t m
-    forths zero n s t m lt r nw = absurd (omega (arith, lt))
-    forths (suc f) n s t m lt r nw =
-        forth_at f (λ n1 s1 t1 k less r1 nw1. forths f n1 s1 t1 k less r1 nw1) (suc n) n s t m (omega arith)
-        (omega (arith, lt)) r nw
+      from_related : (n : ℕ) (s : S) (t : T) (m : ℕ) → R n s t → NeverWrong (Y s) → P s t m
+      from_related n s t m r nw =
+          by_rounds R (λ s1. NeverWrong (Y s1)) P
+          (λ n1 s1 t1 m1 r1 nw1 ih. by_round n1 s1 t1 m1 (goes n1 s1 t1 r1) nw1 ih) n s t m r nw
 
     -- where related states always have a round, the second follows the first
     pub rounds_follow : (n : ℕ) (s : S) (t : T) → R n s t → NeverWrong (reduction_run M s)
         → Follows (reduction_run N t) (reduction_run M s)
     rounds_follow n s t r nw = record {
-      back = λ m. backs (suc m) n s t m (omega arith) r nw;
-      forth = λ m. forths (suc m) n s t m (omega arith) r nw;
+      back = λ m. from_related Backed (λ s1 t1 p. p.second_steps) (λ n1 s1 t1 x. x.second_moves) back_mid back_later
+          ended_at n s t m r nw;
+      forth = λ m. from_related Comes (λ s1 t1 p. p.first_steps) (λ n1 s1 t1 x. x.first_moves) forth_mid forth_later
+          comes_ended n s t m r nw;
     }

@@ -1,16 +1,16 @@
 -- Rounds of several steps on each side, by which one reduction follows another within an account. Each state of the
 -- second on the way names a moment of the first at which it is seen; each state of the first names one at which the
 -- second has come to it.
-use Rattle.std.proofs.Common.{◌≡◌, ◌≢◌, ◌⊎◌, inl, inr, ⊎_elim, ℕ, zero, suc, ◌+◌, ◌-◌, ◌<◌, ◌≤◌, Some, None}
-use Rattle.std.proofs.Common.{refl, sym, ap, ◌∙◌, subst, arith}
-use Rattle.std.proofs.lemmas.Bool.{cases_lt}
+use Rattle.std.proofs.Common.{◌≡◌, ◌≢◌, ◌⊎◌, inl, inr, ⊎_elim, ℕ, zero, suc, ◌+◌, ◌<◌, Some, None, sym, ap, ◌∙◌}
+use Rattle.std.proofs.Common.{subst, arith}
 use Rattle.run_laws.specs.Runs.{Run, Ending, Exhausted, Wrong, EndsAs, HasVerdictOf, NeverWrong}
 use Rattle.run_laws.specs.Runs.{Agrees, Backed, Reached, Any}
 use Rattle.run_laws.specs.Accounts.{FollowsWithin}
 use Rattle.run_laws.specs.Reductions.{Reduction, reduction_run}
 use Rattle.run_laws.proofs.Following.{ends_as_equal, exhausted_or_equal}
 use Rattle.run_laws.proofs.Reducing.{what_has_ended_stays-reductions}
-use Rattle.run_laws.proofs.Rounds.{Along, run_along, mid_along, along_then}
+use Rattle.run_laws.proofs.Rounds.{Along, run_along, mid_along, along_then, along_or_behind, less_left, Earlier}
+use Rattle.run_laws.proofs.Rounds.{by_rounds}
 
 module _ {S T A B V : Type 0} (M : Reduction S A V) (N : Reduction T B V) (K L : B → A → Type 0)
     (R : ℕ → S → T → Type 0) where
@@ -107,6 +107,26 @@ module _ {S T A B V : Type 0} (M : Reduction S A V) (N : Reduction T B V) (K L :
         along_as N (Seen s1) (Seen s) (λ y seen. seen_after i (Met t) s s1 a y seen) w.second_steps t w.t' w.second;
   }
 
+  -- the last round of s1 and t1 is one of s and t, from which such steps lead to its end
+  last_from : (s s1 : S) (t t1 : T) (l : LastRound s1 t1) (i j : ℕ) → Along M (Met t) i s l.ways.s'
+      → Along N (Seen s) j t l.ways.t' → LastRound s t
+  last_from s s1 t t1 l i j first second = record {
+    ways = record {
+      first_steps = i;
+      second_steps = j;
+      s' = l.ways.s';
+      t' = l.ways.t';
+      first = first;
+      second = second;
+    };
+    ending = l.ending;
+    first_ends = l.first_ends;
+    second_ends = l.second_ends;
+    output = l.output;
+    shown = l.shown;
+    allowed = l.allowed;
+  }
+
   -- a round after silent steps of the first is one with them
   pub goes_within_after : (n i : ℕ) (s s1 : S) (t : T) → Along M (Met t) i s s1 → Goes n s1 t → Goes n s t
   unfolding ways_after
@@ -118,15 +138,8 @@ module _ {S T A B V : Type 0} (M : Reduction S A V) (N : Reduction T B V) (K L :
     second_moves = r.second_moves;
   })
   goes_within_after n i s s1 t a (inr (inl l)) =
-      inr (inl (record {
-        ways = ways_after i s s1 t a l.ways;
-        ending = l.ending;
-        first_ends = l.first_ends;
-        second_ends = l.second_ends;
-        output = l.output;
-        shown = l.shown;
-        allowed = l.allowed;
-      }))
+      let w = ways_after i s s1 t a l.ways in
+      inr (inl (last_from s s1 t t l w.first_steps w.second_steps w.first w.second))
   goes_within_after n i s s1 t a (inr (inr (inl w))) =
       inr (inr (inl (record {
         steps = i + w.steps;
@@ -161,15 +174,8 @@ module _ {S T A B V : Type 0} (M : Reduction S A V) (N : Reduction T B V) (K L :
     second_moves = ⊎_elim (λ lt. inl (omega (arith, lt))) (λ lt. inr lt) r.second_moves;
   })
   goes_within_later n j s t t1 a (inr (inl l)) =
-      inr (inl (record {
-        ways = ways_later j s t t1 a l.ways;
-        ending = l.ending;
-        first_ends = l.first_ends;
-        second_ends = l.second_ends;
-        output = l.output;
-        shown = l.shown;
-        allowed = l.allowed;
-      }))
+      let w = ways_later j s t t1 a l.ways in
+      inr (inl (last_from s s t t1 l w.first_steps w.second_steps w.first w.second))
   goes_within_later n j s t t1 a (inr (inr (inl w))) = inr (inr (inl w))
   goes_within_later n j s t t1 a (inr (inr (inr x))) =
       inr (inr (inr (record {
@@ -289,79 +295,39 @@ module _ {S T A B V : Type 0} (M : Reduction S A V) (N : Reduction T B V) (K L :
         inl (ap (λ z. z.ending) is ∙ x.second_ends),
       )
 
-  zero_or : (j : ℕ) → (0 < j ⊎ j ≡ 0)
-  zero_or zero = inr refl
-  zero_or (suc j) = inl (omega arith)
+  -- what holds along the steps of either, behind them and at an ending holds from related states
+  module _ (P : S → T → ℕ → Type 0) (steps : (s : S) (t : T) → Ways s t → ℕ)
+      (moves : (n : ℕ) (s : S) (t : T) (r : Round n s t) → 0 < steps s t r.ways ⊎ r.left < n)
+      (along : (s : S) (t : T) (w : Ways s t) (m : ℕ) → m < steps s t w → P s t m)
+      (behind : (s : S) (t : T) (w : Ways s t) (m k : ℕ) → m ≡ steps s t w + k → P w.s' w.t' k → P s t m)
+      (at_end : (s : S) (t : T) (l : LastRound s t) → l.ending ≢ Wrong → (k : ℕ) → P l.ways.s' l.ways.t' k)
+      (exhausted : (s : S) (t : T) (x : Exhausting s t) (m k : ℕ) → m ≡ steps s t x.ways + k → P s t m) where
+    by_round : (n : ℕ) (s : S) (t : T) (m : ℕ) → Goes n s t → NeverWrong (Y s)
+        → Earlier R (λ s1. NeverWrong (Y s1)) P n m → P s t m
+    by_round n s t m (inl r) nw ih =
+        along_or_behind m (steps s t r.ways) (λ lt. along s t r.ways m lt)
+        (λ k e. behind s t r.ways m k e (ih r.left r.ways.s' r.ways.t' k
+        (less_left n m (steps s t r.ways) k r.left e (moves n s t r)) r.related
+        (wrong_later s r.ways.s' t r.ways.first_steps r.ways.first nw)))
+    by_round n s t m (inr (inl l)) nw ih =
+        along_or_behind m (steps s t l.ways) (λ lt. along s t l.ways m lt)
+        (λ k e. behind s t l.ways m k e (at_end s t l (not_wrong s t l nw) k))
+    by_round n s t m (inr (inr (inl w))) nw ih = absurd (nw w.steps w.wrong)
+    by_round n s t m (inr (inr (inr x))) nw ih =
+        along_or_behind m (steps s t x.ways) (λ lt. along s t x.ways m lt) (λ k e. exhausted s t x m k e)
 
-  less_on : (n m j left : ℕ) → j ≤ m → (0 < j ⊎ j ≡ 0) → (0 < j ⊎ left < n)
-      → (m - j < m ⊎ ((m - j ≡ m) × (left < n)))
-  less_on n m j left le (inl lt) q = inl (omega (arith, lt, le))
-  less_on n m j left le (inr z) (inl lt) = absurd (omega (arith, z, lt))
-  less_on n m j left le (inr z) (inr lt) = inr (omega (arith, z), lt)
-
-  -- later rounds are known for fewer steps, or for a smaller index
-  abbrev Earlier : (P : S → T → ℕ → Type 0) → ℕ → ℕ → Type 0
-  Earlier P n m =
-      (n1 : ℕ) (s1 : S) (t1 : T) (k : ℕ) → (k < m ⊎ ((k ≡ m) × (n1 < n))) → R n1 s1 t1 → NeverWrong (Y s1)
-      → P s1 t1 k
-
-  back_round : (n : ℕ) (s : S) (t : T) (m : ℕ) → NeverWrong (Y s) → Earlier Back n m → Goes n s t → Back s t m
-  back_round n s t m nw ih (inl r) =
-      ⊎_elim (λ lt. back_mid s t r.ways m lt)
-      (λ le. back_later s t r.ways m (m - r.ways.second_steps) (omega (arith, le))
-      (ih r.left r.ways.s' r.ways.t' (m - r.ways.second_steps)
-      (less_on n m r.ways.second_steps r.left le (zero_or r.ways.second_steps) r.second_moves) r.related
-      (wrong_later s r.ways.s' t r.ways.first_steps r.ways.first nw)))
-      (cases_lt m r.ways.second_steps)
-  back_round n s t m nw ih (inr (inl l)) =
-      ⊎_elim (λ lt. back_mid s t l.ways m lt)
-      (λ le. back_later s t l.ways m (m - l.ways.second_steps) (omega (arith, le))
-      (back_ended s t l (not_wrong s t l nw) (m - l.ways.second_steps)))
-      (cases_lt m l.ways.second_steps)
-  back_round n s t m nw ih (inr (inr (inl w))) = absurd (nw w.steps w.wrong)
-  back_round n s t m nw ih (inr (inr (inr x))) =
-      ⊎_elim (λ lt. back_mid s t x.ways m lt)
-      (λ le. back_exhausted s t x m (m - x.ways.second_steps) (omega (arith, le)))
-      (cases_lt m x.ways.second_steps)
-
-  forth_round : (n : ℕ) (s : S) (t : T) (m : ℕ) → NeverWrong (Y s) → Earlier Forth n m → Goes n s t → Forth s t m
-  forth_round n s t m nw ih (inl r) =
-      ⊎_elim (λ lt. forth_mid s t r.ways m lt)
-      (λ le. forth_later s t r.ways m (m - r.ways.first_steps) (omega (arith, le))
-      (ih r.left r.ways.s' r.ways.t' (m - r.ways.first_steps)
-      (less_on n m r.ways.first_steps r.left le (zero_or r.ways.first_steps) r.first_moves) r.related
-      (wrong_later s r.ways.s' t r.ways.first_steps r.ways.first nw)))
-      (cases_lt m r.ways.first_steps)
-  forth_round n s t m nw ih (inr (inl l)) =
-      ⊎_elim (λ lt. forth_mid s t l.ways m lt)
-      (λ le. forth_later s t l.ways m (m - l.ways.first_steps) (omega (arith, le))
-      (forth_ended s t l (not_wrong s t l nw) (m - l.ways.first_steps)))
-      (cases_lt m l.ways.first_steps)
-  forth_round n s t m nw ih (inr (inr (inl w))) = absurd (nw w.steps w.wrong)
-  forth_round n s t m nw ih (inr (inr (inr x))) =
-      ⊎_elim (λ lt. forth_mid s t x.ways m lt)
-      (λ le. forth_exhausted s t x m (m - x.ways.first_steps) (omega (arith, le)))
-      (cases_lt m x.ways.first_steps)
-
-  module _ (goes : (n : ℕ) (s : S) (t : T) → R n s t → Goes n s t) (P : S → T → ℕ → Type 0)
-      (by_round : (n : ℕ) (s : S) (t : T) (m : ℕ) → NeverWrong (Y s) → Earlier P n m → Goes n s t → P s t m) where
-    at_most : (f : ℕ) → ((n : ℕ) (s : S) (t : T) (m : ℕ) → m < f → R n s t → NeverWrong (Y s) → P s t m)
-        → (z n : ℕ) (s : S) (t : T) (m : ℕ) → n < z → m ≤ f → R n s t → NeverWrong (Y s) → P s t m
-    at_most f ih zero n s t m lt le r nw = absurd (omega (arith, lt))
-    at_most f ih (suc z) n s t m lt le r nw =
-        by_round n s t m nw (λ n1 s1 t1 k c r1 nw1. ⊎_elim (λ less. ih n1 s1 t1 k (omega (arith, less, le)) r1 nw1)
-        (λ q. at_most f ih z n1 s1 t1 k (omega (arith, q.1, lt)) (omega (arith, q.0, le)) r1 nw1) c) (goes n s t r)
-
-    all_below : (f n : ℕ) (s : S) (t : T) (m : ℕ) → m < f → R n s t → NeverWrong (Y s) → P s t m
-    all_below zero n s t m lt r nw = absurd (omega (arith, lt))
-    all_below (suc f) n s t m lt r nw =
-        at_most f (λ n1 s1 t1 k less r1 nw1. all_below f n1 s1 t1 k less r1 nw1) (suc n) n s t m (omega arith)
-        (omega (arith, lt)) r nw
+    from_related : ((n : ℕ) (s : S) (t : T) → R n s t → Goes n s t) → (n : ℕ) (s : S) (t : T) (m : ℕ) → R n s t
+        → NeverWrong (Y s) → P s t m
+    from_related goes n s t m r nw =
+        by_rounds R (λ s1. NeverWrong (Y s1)) P
+        (λ n1 s1 t1 m1 r1 nw1 ih. by_round n1 s1 t1 m1 (goes n1 s1 t1 r1) nw1 ih) n s t m r nw
 
   -- where related states always have a round, the second follows the first, and shows so
   pub rounds_follow_within : ((n : ℕ) (s : S) (t : T) → R n s t → Goes n s t) → (n : ℕ) (s : S) (t : T) → R n s t
       → NeverWrong (Y s) → FollowsWithin K L (X t) (Y s)
   rounds_follow_within goes n s t r nw = record {
-    back = λ m. all_below goes Back back_round (suc m) n s t m (omega arith) r nw;
-    forth = λ m. all_below goes Forth forth_round (suc m) n s t m (omega arith) r nw;
+    back = λ m. from_related Back (λ s1 t1 w. w.second_steps) (λ n1 s1 t1 x. x.second_moves) back_mid back_later
+        back_ended back_exhausted goes n s t m r nw;
+    forth = λ m. from_related Forth (λ s1 t1 w. w.first_steps) (λ n1 s1 t1 x. x.first_moves) forth_mid forth_later
+        forth_ended forth_exhausted goes n s t m r nw;
   }

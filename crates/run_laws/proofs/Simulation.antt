@@ -80,7 +80,7 @@ module _ {T B V : Type 0} (N : Machine T B V) (P Q : T → Type 0) where
     arrive (suc k) t r fin = arrive_on t k (λ t1 r1. arrive k t1 r1 fin) (N.step t) refl r.1
 
 -- a claim of every ending but Wrong
-unless_wrong : {V P : Type 0} (e : Ending V) → e ≢ Wrong → UnlessWrong e P → P
+pub unless_wrong : {V P : Type 0} (e : Ending V) → e ≢ Wrong → UnlessWrong e P → P
 unless_wrong (Verdict v) ne p = p
 unless_wrong Exhausted ne p = p
 unless_wrong Wrong ne p = absurd (ne refl)
@@ -90,16 +90,24 @@ unless_wrong_map (Verdict v) f p = f p
 unless_wrong_map Exhausted f p = f p
 unless_wrong_map Wrong f p = tt
 
-module _ {S T A B V : Type 0} (K L : B → A → Type 0) (M : Machine S A V) (N : Machine T B V) (R : S → T → Type 0)
-    (size : S → ℕ) (b : Simulation K L M N R size) where
-  goes : (s s' : S) (t : T) → R s t → M.step s ≡ Go s' → (k : ℕ) × (0 < k ⊎ size s' < size s)
-      × Reaches N (OnTheWay K L M N s s') (R s') k t
-  goes s s' t r e = subst (Does K L M N R size s t) e (b.does s t r)
+-- related at some index
+abbrev pub AtSome : {S T : Type 0} → (ℕ → S → T → Type 0) → S → T → Type 0
+AtSome R s t = (i : ℕ) × R i s t
 
-  stops : (s s' : S) (t : T) (e : Ending V) → R s t → M.step s ≡ Stop e s' → e ≢ Wrong
-      → (k : ℕ) × Reaches N (OnTheWay K L M N s s') (StopsAt K L M N s s' e) k t
-  stops s s' t e r h ne = unless_wrong e ne (subst (Does K L M N R size s t) h (b.does s t r))
+-- what the target does from t for a step of the source from s to s': some steps, or none where the index falls
+abbrev pub GoesOn : {S T A B V : Type 0} → (K L : B → A → Type 0) → Machine S A V → Machine T B V
+    → (ℕ → S → T → Type 0) → ℕ → S → S → T → Type 0
+GoesOn K L M N R i s s' t =
+    ((j : ℕ) × (j < i) × R j s' t) ⊎ ((k : ℕ) × Reaches N (OnTheWay K L M N s s') (AtSome R s') (suc k) t)
 
+-- the simulation theorem where states are related at an index. So what falls may be a measure of the source's states,
+-- or one of how the states are related
+module _ {S T A B V : Type 0} (K L : B → A → Type 0) (M : Machine S A V) (N : Machine T B V) (R : ℕ → S → T → Type 0)
+    (alike : (i : ℕ) (s : S) (t : T) → R i s t → Alike K M N s t × L (N.shown t) (M.shown s))
+    (goes : (i : ℕ) (s s' : S) (t : T) → R i s t → M.step s ≡ Go s' → GoesOn K L M N R i s s' t)
+    (stops : (i : ℕ) (s s' : S) (t : T) (e : Ending V) → R i s t → M.step s ≡ Stop e s' → e ≢ Wrong
+    → (k : ℕ) × Reaches N (OnTheWay K L M N s s') (StopsAt K L M N s s' e) k t)
+    (still_allowed : (x : B) (s : S) → L x (M.shown s) → L x (M.shown (landing (M.step s)))) where
   -- a moment of the source's run
   abbrev Seen : S → Moment B V → Type 0
   Seen s x = (n : ℕ) × Backed K x (run M s n)
@@ -166,38 +174,36 @@ module _ {S T A B V : Type 0} (K L : B → A → Type 0) (M : Machine S A V) (N 
 
   -- each of the target's first moments
   abbrev Backs : ℕ → Type 0
-  Backs f = (s : S) (t : T) (m : ℕ) → m < f → R s t → NeverWrong (run M s) → Seen s (run N t m)
+  Backs f = (i : ℕ) (s : S) (t : T) (m : ℕ) → m < f → R i s t → NeverWrong (run M s) → Seen s (run N t m)
 
-  back_go : (f : ℕ) → Backs f → (s s' : S) (t : T) (m k : ℕ) → m ≤ f → NeverWrong (run M s) → M.step s ≡ Go s'
-      → (0 < k ⊎ size s' < size s) → Reaches N (OnTheWay K L M N s s') (R s') k t
-      → (size s' < size s → R s' t → Seen s' (run N t m)) → Seen s (run N t m)
-  back_go f ih s s' t m zero le nw e p r again =
-      seen_shift s s' (run N t m) e (again (⊎_elim (λ (lt : 0 < 0). absurd (omega arith)) (λ lt. lt) p) r)
-  back_go f ih s s' t m (suc k) le nw e p r again =
-      walk N (OnTheWay K L M N s s') (R s') (Seen s) (λ t1 q. way_here s s' t1 e q) (λ t1 q. way_out s s' t1 e q)
-      (suc k) t m r (λ t1 j q h. seen_shift s s' (run N t1 j) e (ih s' t1 j (omega arith) q (never_next s s' e nw)))
+  back_go : (f : ℕ) → Backs f → (i : ℕ) (s s' : S) (t : T) (m : ℕ) → m ≤ f → NeverWrong (run M s) → M.step s ≡ Go s'
+      → GoesOn K L M N R i s s' t → ((j : ℕ) → j < i → R j s' t → Seen s' (run N t m)) → Seen s (run N t m)
+  back_go f ih i s s' t m le nw e (inl x) again = seen_shift s s' (run N t m) e (again x.0 x.1 x.2)
+  back_go f ih i s s' t m le nw e (inr x) again =
+      walk N (OnTheWay K L M N s s') (AtSome R s') (Seen s) (λ t1 q. way_here s s' t1 e q)
+      (λ t1 q. way_out s s' t1 e q) (suc x.0) t m x.1
+      (λ t1 j q h. seen_shift s s' (run N t1 j) e (ih q.0 s' t1 j (omega arith) q.1 (never_next s s' e nw)))
 
-  back_step : (f : ℕ) → Backs f → (s : S) (t : T) (m : ℕ) → m ≤ f → R s t → NeverWrong (run M s)
-      → ((s' : S) → M.step s ≡ Go s' → size s' < size s → R s' t → Seen s' (run N t m)) → (x : Next S V)
+  back_step : (f : ℕ) → Backs f → (i : ℕ) (s : S) (t : T) (m : ℕ) → m ≤ f → R i s t → NeverWrong (run M s)
+      → ((s' : S) → M.step s ≡ Go s' → (j : ℕ) → j < i → R j s' t → Seen s' (run N t m)) → (x : Next S V)
       → M.step s ≡ x → Seen s (run N t m)
-  back_step f ih s t m le r nw again (Go s') e =
-      let g = goes s s' t r e in back_go f ih s s' t m g.0 le nw e g.1 g.2 (again s' e)
-  back_step f ih s t m le r nw again (Stop o s') e =
+  back_step f ih i s t m le r nw again (Go s') e = back_go f ih i s s' t m le nw e (goes i s s' t r e) (again s' e)
+  back_step f ih i s t m le r nw again (Stop o s') e =
       let ne = not_wrong s s' o nw e in
-      let g = stops s s' t o r e ne in
+      let g = stops i s s' t o r e ne in
       walk N (OnTheWay K L M N s s') _ (Seen s) (λ t1 q. end_here s s' t1 o e q)
       (λ t1 q. end_out s s' t1 o e q) g.0 t m g.1 (λ t1 j q h. end_there s s' t1 o j ne e q)
 
-  back_size : (f : ℕ) → Backs f → (z : ℕ) (s : S) (t : T) (m : ℕ) → size s < z → m ≤ f → R s t → NeverWrong (run M s)
-      → Seen s (run N t m)
-  back_size f ih zero s t m lt le r nw = absurd (omega arith)
-  back_size f ih (suc z) s t m lt le r nw =
-      back_step f ih s t m le r nw (λ s' e less r'. back_size f ih z s' t m (omega arith) le r'
+  back_index : (f : ℕ) → Backs f → (z : ℕ) (i : ℕ) (s : S) (t : T) (m : ℕ) → i < z → m ≤ f → R i s t
+      → NeverWrong (run M s) → Seen s (run N t m)
+  back_index f ih zero i s t m lt le r nw = absurd (omega arith)
+  back_index f ih (suc z) i s t m lt le r nw =
+      back_step f ih i s t m le r nw (λ s' e j less r'. back_index f ih z j s' t m (omega (arith, lt, less)) le r'
       (never_next s s' e nw)) (M.step s) refl
 
   backs : (f : ℕ) → Backs f
-  backs zero s t m lt r nw = absurd (omega arith)
-  backs (suc f) s t m lt r nw = back_size f (backs f) (suc (size s)) s t m (omega arith) (omega arith) r nw
+  backs zero i s t m lt r nw = absurd (omega arith)
+  backs (suc f) i s t m lt r nw = back_index f (backs f) (suc i) i s t m (omega arith) (omega arith) r nw
 
   -- what is allowed stays allowed along the run
   allowed_along : (n : ℕ) (x : B) (s : S) → L x (M.shown s) → L x (run M s n).shown
@@ -206,8 +212,8 @@ module _ {S T A B V : Type 0} (K L : B → A → Type 0) (M : Machine S A V) (N 
     where
       allowed_step : ((s' : S) → L x (M.shown s') → L x (run M s' n).shown) → (y : Next S V) → M.step s ≡ y
           → L x (seen M (and_then y (λ s'. steps M s' n))).shown
-      allowed_step ih (Go s') e = ih s' (subst (λ z. L x (M.shown (landing z))) e (b.still_allowed x s l))
-      allowed_step ih (Stop o s') e = subst (λ z. L x (M.shown (landing z))) e (b.still_allowed x s l)
+      allowed_step ih (Go s') e = ih s' (subst (λ z. L x (M.shown (landing z))) e (still_allowed x s l))
+      allowed_step ih (Stop o s') e = subst (λ z. L x (M.shown (landing z))) e (still_allowed x s l)
 
   -- the target has come to the source's moment, or has run out on the way
   abbrev Comes : S → ℕ → Moment B V → Type 0
@@ -238,60 +244,97 @@ module _ {S T A B V : Type 0} (K L : B → A → Type 0) (M : Machine S A V) (N 
         )),
   )
 
-  forth_step : (n : ℕ) → ((s : S) (t : T) → R s t → NeverWrong (run M s) → (m : ℕ) × Comes s n (run N t m))
-      → (s : S) (t : T) → R s t → NeverWrong (run M s) → (x : Next S V) → M.step s ≡ x
+  forth_step : (n : ℕ) → ((i : ℕ) (s : S) (t : T) → R i s t → NeverWrong (run M s) → (m : ℕ) × Comes s n (run N t m))
+      → (i : ℕ) (s : S) (t : T) → R i s t → NeverWrong (run M s) → (x : Next S V) → M.step s ≡ x
       → (m : ℕ) × Comes s (suc n) (run N t m)
-  forth_step n ih s t r nw (Go s') e =
-      let g = goes s s' t r e in
-      arrive N (OnTheWay K L M N s s') (R s') (Comes s (suc n)) (λ t1 q. comes_out s s' n t1 e q) g.0 t g.2
-      (λ t1 q. let a = ih s' t1 q (never_next s s' e nw) in (a.0, comes_shift s s' n (run N t1 a.0) e a.1))
-  forth_step n ih s t r nw (Stop o s') e =
+  forth_step n ih i s t r nw (Go s') e = by_goes (goes i s s' t r e)
+    where
+      by_goes : GoesOn K L M N R i s s' t → (m : ℕ) × Comes s (suc n) (run N t m)
+      by_goes (inl x) =
+          let a = ih x.0 s' t x.2 (never_next s s' e nw) in (a.0, comes_shift s s' n (run N t a.0) e a.1)
+      by_goes (inr x) =
+          arrive N (OnTheWay K L M N s s') (AtSome R s') (Comes s (suc n)) (λ t1 q. comes_out s s' n t1 e q) (suc x.0)
+          t x.1
+          (λ t1 q. let a = ih q.0 s' t1 q.1 (never_next s s' e nw) in (a.0, comes_shift s s' n (run N t1 a.0) e a.1))
+  forth_step n ih i s t r nw (Stop o s') e =
       let ne = not_wrong s s' o nw e in
-      let g = stops s s' t o r e ne in
+      let g = stops i s s' t o r e ne in
       arrive N (OnTheWay K L M N s s') _ (Comes s (suc n))
       (λ t1 q. comes_end s s' n (moment N t1 (Some Exhausted)) o e (q.1, inl refl)) g.0 t g.1
       (λ t1 q. comes_stop s s' n t1 o ne e q)
 
-  forths : (n : ℕ) (s : S) (t : T) → R s t → NeverWrong (run M s) → (m : ℕ) × Comes s n (run N t m)
-  forths zero s t r nw =
-      let a = b.alike s t r in (0, (a.1, inr (as_agrees None None s t a.0, tt)))
-  forths (suc n) s t r nw = forth_step n (λ s1 t1 r1 nw1. forths n s1 t1 r1 nw1) s t r nw (M.step s) refl
-
-  simulates : (s : S) (t : T) → R s t → NeverWrong (run M s) → FollowsBy K L (run N t) (run M s)
-  simulates s t r nw = record {
-    back = λ m. backs (suc m) s t m (omega arith) r nw;
-    forth = λ n. let a = forths n s t r nw in (a.0, a.1.0, a.1.1);
-  }
+  forths : (n i : ℕ) (s : S) (t : T) → R i s t → NeverWrong (run M s) → (m : ℕ) × Comes s n (run N t m)
+  forths zero i s t r nw =
+      let a = alike i s t r in (0, (a.1, inr (as_agrees None None s t a.0, tt)))
+  forths (suc n) i s t r nw = forth_step n (λ i1 s1 t1 r1 nw1. forths n i1 s1 t1 r1 nw1) i s t r nw (M.step s) refl
 
   -- from a start at which the target is not yet related, but seen as the source's first state
   abbrev Starting : S → T → Type 0
   Starting s t = Alike K M N s t × L (N.shown t) (M.shown s)
 
-  start_back : (s : S) (k : ℕ) (t : T) → Reaches N (Starting s) (R s) k t → NeverWrong (run M s) → (m : ℕ)
+  start_back : (s : S) (k : ℕ) (t : T) → Reaches N (Starting s) (AtSome R s) k t → NeverWrong (run M s) → (m : ℕ)
       → Seen s (run N t m)
   start_back s k t r nw m =
-      walk N (Starting s) (R s) (Seen s) (λ t1 q. seen_here s t1 q.0) (λ t1 q. seen_out s t1 q.0) k t m r
-      (λ t1 j q h. backs (suc j) s t1 j (omega arith) q nw)
+      walk N (Starting s) (AtSome R s) (Seen s) (λ t1 q. seen_here s t1 q.0) (λ t1 q. seen_out s t1 q.0) k t m r
+      (λ t1 j q h. backs (suc j) q.0 s t1 j (omega arith) q.1 nw)
 
-  start_forth : (s : S) (k : ℕ) (t : T) → Reaches N (Starting s) (R s) k t → NeverWrong (run M s) → (n : ℕ)
+  start_forth : (s : S) (k : ℕ) (t : T) → Reaches N (Starting s) (AtSome R s) k t → NeverWrong (run M s) → (n : ℕ)
       → (m : ℕ) × Comes s n (run N t m)
   start_forth s k t r nw n =
-      arrive N (Starting s) (R s) (Comes s n) (λ t1 q. (allowed_along n (N.shown t1) s q.1, inl refl)) k t r
-      (λ t1 q. forths n s t1 q nw)
+      arrive N (Starting s) (AtSome R s) (Comes s n) (λ t1 q. (allowed_along n (N.shown t1) s q.1, inl refl)) k t r
+      (λ t1 q. forths n q.0 s t1 q.1 nw)
 
-  simulates_from : (s : S) (k : ℕ) (t : T) → Reaches N (Starting s) (R s) k t → NeverWrong (run M s)
+  pub simulates_at_index : (s : S) (k : ℕ) (t : T)
+      → Reaches N (λ t'. Alike K M N s t' × L (N.shown t') (M.shown s)) (AtSome R s) k t → NeverWrong (run M s)
       → FollowsBy K L (run N t) (run M s)
-  simulates_from s k t r nw = record {
+  simulates_at_index s k t r nw = record {
     back = λ m. start_back s k t r nw m;
     forth = λ n. let a = start_forth s k t r nw n in (a.0, a.1.0, a.1.1);
   }
+
+-- where a measure of the source's states falls, related states are related at that measure
+module _ {S T A B V : Type 0} (K L : B → A → Type 0) (M : Machine S A V) (N : Machine T B V) (R : S → T → Type 0)
+    (size : S → ℕ) (b : Simulation K L M N R size) where
+  abbrev AtSize : ℕ → S → T → Type 0
+  AtSize i s t = (i ≡ size s) × R s t
+
+  abbrev related : (s : S) (t : T) → R s t → AtSome AtSize s t
+  related s t r = (size s, (refl, r))
+
+  goes_on : (i : ℕ) (s s' : S) (t : T) → i ≡ size s → (k : ℕ) → 0 < k ⊎ size s' < size s
+      → Reaches N (OnTheWay K L M N s s') (R s') k t → GoesOn K L M N AtSize i s s' t
+  goes_on i s s' t h zero (inl lt) r = absurd (omega (arith, lt))
+  goes_on i s s' t h zero (inr lt) r = inl (size s', omega (arith, h, lt), (refl, r))
+  goes_on i s s' t h (suc k) p r =
+      inr (
+        k,
+        reaches_weaken N (OnTheWay K L M N s s') (R s') (OnTheWay K L M N s s') (AtSome AtSize s') (λ t1 q. q)
+            (λ t1 q. related s' t1 q) (suc k) t r,
+      )
+
+  goes_at_size : (i : ℕ) (s s' : S) (t : T) → AtSize i s t → M.step s ≡ Go s' → GoesOn K L M N AtSize i s s' t
+  goes_at_size i s s' t r e =
+      let g = subst (Does K L M N R size s t) e (b.does s t r.1) in goes_on i s s' t r.0 g.0 g.1 g.2
+
+  stops_at_size : (i : ℕ) (s s' : S) (t : T) (e : Ending V) → AtSize i s t → M.step s ≡ Stop e s' → e ≢ Wrong
+      → (k : ℕ) × Reaches N (OnTheWay K L M N s s') (StopsAt K L M N s s' e) k t
+  stops_at_size i s s' t e r h ne = unless_wrong e ne (subst (Does K L M N R size s t) h (b.does s t r.1))
+
+  from_start : (s : S) (k : ℕ) (t : T)
+      → Reaches N (λ t'. Alike K M N s t' × L (N.shown t') (M.shown s)) (R s) k t → NeverWrong (run M s)
+      → FollowsBy K L (run N t) (run M s)
+  from_start s k t r nw =
+      simulates_at_index K L M N AtSize (λ i s1 t1 r1. b.alike s1 t1 r1.1) goes_at_size stops_at_size b.still_allowed
+      s k t (reaches_weaken N (λ t'. Alike K M N s t' × L (N.shown t') (M.shown s)) (R s)
+      (λ t'. Alike K M N s t' × L (N.shown t') (M.shown s)) (AtSome AtSize s) (λ t1 q. q) (λ t1 q. related s t1 q) k t
+      r) nw
 
 -- the simulation theorem: from related states a target that simulates the source follows it
 pub follows_by_simulation : {S T A B V : Type 0} {K L : B → A → Type 0} {M : Machine S A V} {N : Machine T B V}
     {R : S → T → Type 0} {size : S → ℕ} → Simulation K L M N R size → (s : S) (t : T) → R s t → NeverWrong (run M s)
     → FollowsBy K L (run N t) (run M s)
 follows_by_simulation {K = K} {L = L} {M = M} {N = N} {R = R} {size = size} b s t r nw =
-    simulates K L M N R size b s t r nw
+    from_start K L M N R size b s 0 t r nw
 
 -- the simulation theorem from a start of the target, which in some steps comes to a state that is related to the
 -- source's first, and is seen as that first state on the way
@@ -300,4 +343,4 @@ pub follows_from_start : {S T A B V : Type 0} {K L : B → A → Type 0} {M : Ma
     → Reaches N (λ t'. Alike K M N s t' × L (N.shown t') (M.shown s)) (R s) k t → NeverWrong (run M s)
     → FollowsBy K L (run N t) (run M s)
 follows_from_start {K = K} {L = L} {M = M} {N = N} {R = R} {size = size} b s k t r nw =
-    simulates_from K L M N R size b s k t r nw
+    from_start K L M N R size b s k t r nw

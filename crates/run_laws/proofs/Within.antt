@@ -1,8 +1,9 @@
 -- Following within an account: what follows by relations does, and it composes.
-use Rattle.std.proofs.Common.{◌≡◌, inl, inr, ℕ, Option, Some, None, ◌∙◌, subst}
-use Rattle.run_laws.specs.Runs.{Run, Moment, Ending, Verdict, Exhausted, Wrong, EndsAs, HasVerdictOf}
+use Rattle.std.proofs.Common.{◌≡◌, inl, inr, ℕ, Option, Some, ◌∙◌, subst}
+use Rattle.run_laws.specs.Runs.{Run, Moment, Ending, Exhausted, HasVerdictOf}
 use Rattle.run_laws.specs.Runs.{Backed, Reached, FollowsBy, Through, Any}
 use Rattle.run_laws.specs.Accounts.{FollowsWithin}
+use Rattle.run_laws.proofs.Following.{ends_as_trans, has_verdict_of_trans}
 
 -- what follows by relations follows within them
 reached_any : {A B V : Type 0} (K : A → B → Type 0) (x : Moment A V) (y : Moment B V) → Reached K x y → Reached Any x y
@@ -21,20 +22,8 @@ backed_through : {A B C V : Type 0} (K : A → B → Type 0) (K' : B → C → T
     (z : Moment C V) → Backed K x y → Backed K' y z → Backed (Through K K') x z
 backed_through K K' x y z a b = (
   record { output = a.0.output ∙ b.0.output; shown = (y.shown, a.0.shown, b.0.shown) },
-  ends x.ending y.ending z.ending a.1 b.1,
+  ends_as_trans x.ending y.ending z.ending a.1 b.1,
 )
-  where
-    ends : {V : Type 0} (o p q : Option (Ending V)) → EndsAs o p → EndsAs p q → EndsAs o q
-    ends None p q e f = tt
-    ends (Some (Verdict v)) p q e f = subst (λ r. EndsAs r q) e f
-    ends (Some Exhausted) p q e f = tt
-    ends (Some Wrong) p q e f = absurd e
-
-verdict_through : {V : Type 0} (o p q : Option (Ending V)) → HasVerdictOf o p → HasVerdictOf p q → HasVerdictOf o q
-verdict_through o p None e f = tt
-verdict_through o p (Some (Verdict v)) e f = subst (λ r. HasVerdictOf o r) f e
-verdict_through o p (Some Exhausted) e f = absurd f
-verdict_through o p (Some Wrong) e f = absurd f
 
 out_through : {V : Type 0} (o p : Option (Ending V)) → p ≡ Some Exhausted → HasVerdictOf o p → ⊥
 out_through o p e h = subst (λ r. HasVerdictOf o r) e h
@@ -45,7 +34,7 @@ reached_through x y z (inl e) b = inl e
 reached_through x y z (inr a) (inl e) = absurd (out_through x.ending y.ending e a.1)
 reached_through x y z (inr a) (inr b) = inr (
   record { output = a.0.output ∙ b.0.output; shown = tt },
-  verdict_through x.ending y.ending z.ending a.1 b.1,
+  has_verdict_of_trans x.ending y.ending z.ending a.1 b.1,
 )
 
 pub within_trans : {A B C V : Type 0} {X : Run A V} {Y : Run B V} {Z : Run C V} {K L : A → B → Type 0}
