@@ -1,5 +1,5 @@
 -- The words of the objects that a turn makes are at most what the turn asks for, in both modes.
-use Rattle.std.proofs.Common.{ℕ, zero, suc, ◌+◌, ◌*◌, ◌<◌, ◌≤◌, pos, List, [], ◌∷◌, length, Some, arith, subst, sym}
+use Rattle.std.proofs.Common.{ℕ, zero, suc, ◌*◌, ◌<◌, ◌≤◌, pos, List, [], ◌∷◌, Some, arith, subst, sym}
 use Rattle.std.specs.Prelude.{◌^◌}
 use Rattle.std.proofs.Math.Nat.{pow-zero, pow-suc, mul-pos}
 use Rattle.grift_base.specs.Types.{TypeRows}

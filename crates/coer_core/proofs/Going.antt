@@ -21,7 +21,7 @@ use Rattle.coer_core.proofs.Merging.{Likeness, Stores, Frames, Foci}
 use Rattle.coer_core.proofs.MergeSteps.{Same}
 use Rattle.coer_core.proofs.Priced.{ByCast, Priced, priced, Prices, NoMore, PaysNoMore, asks_of, acts_of, budget_of}
 use Rattle.coer_core.proofs.Priced.{pricing}
-use Rattle.coer_core.proofs.Priced.{state_priced, Goes}
+use Rattle.coer_core.proofs.Priced.{state_priced, Goes, Met, Seen}
 
 -- a turn that doesn't go wrong
 abbrev pub Proceeds : {C : Type 0} → CoerAfter C → Type 0
@@ -234,6 +234,57 @@ module _ {C D : Type 0} (like : Likeness C D) (m : Mode C) (n : Mode D) (set : S
             frames = omega (arith, long);
           }
 
+      -- what each comes to
+      abbrev next0 : CoerAfter C → Priced C
+      next0 after = priced (w + asks0) (a + acts0) (p + budget0) (after_turn s after)
+
+      abbrev next1 : CoerAfter D → Priced D
+      next1 after = priced (w1 + asks1) (a1 + acts1) (p1 + budget1) (after_turn t after)
+
+      first_turn : (after : CoerAfter C) → turn m store world focus frames ≡ after
+          → Along M (Met M N NoMore PaysNoMore R (priced w1 a1 p1 t)) 1 (priced w a p s) (next0 after)
+      first_turn after e = (
+        no_end (λ end. ending_at set.told end focus) (ended_at focus frames) first,
+        record { at = 0; output = refl; allowed = record { acts = omega (arith, la); paid = omega (arith, lp) } },
+        ap next0 e,
+      )
+
+      second_turn : (after : CoerAfter D) → turn n store1 world focus1 frames1 ≡ after
+          → SameKind focus frames focus1 frames1
+          → Along N (Seen M N NoMore PaysNoMore R (priced w a p s)) 1 (priced w1 a1 p1 t) (next1 after)
+      second_turn after e kind = (
+        no_end (λ end. ending_at set.told end focus1) (ended_at focus1 frames1) second,
+        record { at = 0; output = refl; shown = start kind },
+        ap next1 e,
+      )
+
+      -- a turn by which both end in the same way
+      last_turn : (after : CoerAfter C) (after1 : CoerAfter D) (e : Ending Verdict)
+          → turn m store world focus frames ≡ after → turn n store1 world focus1 frames1 ≡ after1
+          → SameKind focus frames focus1 frames1 → M.ending (next0 after) ≡ Some e → N.ending (next1 after1) ≡ Some e
+          → N.output (next1 after1) ≡ M.output (next0 after)
+          → NoMore (N.shown (next1 after1)) (M.shown (next0 after))
+          → Goes M N NoMore PaysNoMore R i (priced w a p s) (priced w1 a1 p1 t)
+      last_turn after after1 e ea eb kind end0 end1 same shown =
+          let lb = budget_less kind in
+          let lc = acts_less kind in
+          inr (inl (record {
+            ways = record {
+              first_steps = 1;
+              second_steps = 1;
+              s' = next0 after;
+              t' = next1 after1;
+              first = first_turn after ea;
+              second = second_turn after1 eb kind;
+            };
+            ending = e;
+            first_ends = end0;
+            second_ends = end1;
+            output = same;
+            shown = shown;
+            allowed = record { acts = omega (arith, la, lc); paid = omega (arith, lp, lb) };
+          }))
+
       one_turn : (after : CoerAfter C) (after1 : CoerAfter D) → turn m store world focus frames ≡ after
           → turn n store1 world focus1 frames1 ≡ after1 → Same like after after1
           → Goes M N NoMore PaysNoMore R i (priced w a p s) (priced w1 a1 p1 t)
@@ -246,22 +297,10 @@ module _ {C D : Type 0} (like : Likeness C D) (m : Mode C) (n : Mode D) (set : S
             ways = record {
               first_steps = 1;
               second_steps = 1;
-              s' = priced (w + asks0) (a + acts0) (p + budget0) (state_at f k st u);
-              t' = priced (w1 + asks1) (a1 + acts1) (p1 + budget1) (state_at g k' st' u');
-              first = (
-                no_end (λ end. ending_at set.told end focus) (ended_at focus frames) first,
-                record {
-                  at = 0;
-                  output = refl;
-                  allowed = record { acts = omega (arith, la); paid = omega (arith, lp) };
-                },
-                ap (λ x. priced (w + asks0) (a + acts0) (p + budget0) (after_turn s x)) ea,
-              );
-              second = (
-                no_end (λ end. ending_at set.told end focus1) (ended_at focus1 frames1) second,
-                record { at = 0; output = refl; shown = start kind },
-                ap (λ x. priced (w1 + asks1) (a1 + acts1) (p1 + budget1) (after_turn t x)) eb,
-              );
+              s' = next0 (On f k st u);
+              t' = next1 (On g k' st' u');
+              first = first_turn (On f k st u) ea;
+              second = second_turn (On g k' st' u') eb kind;
             };
             left = 0;
             related = record {
@@ -287,71 +326,17 @@ module _ {C D : Type 0} (like : Likeness C D) (m : Mode C) (n : Mode D) (set : S
       one_turn (BlameOf label) (BlameOf other) ea eb r =
           let kind = kind_of (subst Proceeds (sym ea) tt) in
           let le = asks_less kind in
-          let lb = budget_less kind in
-          let lc = acts_less kind in
           let long = kind.long in
-          inr (inl (record {
-            ways = record {
-              first_steps = 1;
-              second_steps = 1;
-              s' = priced (w + asks0) (a + acts0) (p + budget0) (after_turn s (BlameOf label));
-              t' = priced (w1 + asks1) (a1 + acts1) (p1 + budget1) (after_turn t (BlameOf other));
-              first = (
-                no_end (λ end. ending_at set.told end focus) (ended_at focus frames) first,
-                record {
-                  at = 0;
-                  output = refl;
-                  allowed = record { acts = omega (arith, la); paid = omega (arith, lp) };
-                },
-                ap (λ x. priced (w + asks0) (a + acts0) (p + budget0) (after_turn s x)) ea,
-              );
-              second = (
-                no_end (λ end. ending_at set.told end focus1) (ended_at focus1 frames1) second,
-                record { at = 0; output = refl; shown = start kind },
-                ap (λ x. priced (w1 + asks1) (a1 + acts1) (p1 + budget1) (after_turn t x)) eb,
-              );
-            };
-            ending = ending_of set.told.labels (Blamed label);
-            first_ends = refl;
-            second_ends = ap (λ l. Some (ending_of set.told.labels (Blamed l))) r;
-            output = refl;
-            shown = record { reach = omega (arith, lw, le); asks = omega arith; frames = omega (arith, long) };
-            allowed = record { acts = omega (arith, la, lc); paid = omega (arith, lp, lb) };
-          }))
+          last_turn (BlameOf label) (BlameOf other) (ending_of set.told.labels (Blamed label)) ea eb kind refl
+          (ap (λ l. Some (ending_of set.told.labels (Blamed l))) r) refl
+          (record { reach = omega (arith, lw, le); asks = omega arith; frames = omega (arith, long) })
       one_turn (TrapOf trap u) (TrapOf other u') ea eb r =
           let kind = kind_of (subst Proceeds (sym ea) tt) in
           let le = asks_less kind in
-          let lb = budget_less kind in
-          let lc = acts_less kind in
           let long = kind.long in
-          inr (inl (record {
-            ways = record {
-              first_steps = 1;
-              second_steps = 1;
-              s' = priced (w + asks0) (a + acts0) (p + budget0) (after_turn s (TrapOf trap u));
-              t' = priced (w1 + asks1) (a1 + acts1) (p1 + budget1) (after_turn t (TrapOf other u'));
-              first = (
-                no_end (λ end. ending_at set.told end focus) (ended_at focus frames) first,
-                record {
-                  at = 0;
-                  output = refl;
-                  allowed = record { acts = omega (arith, la); paid = omega (arith, lp) };
-                },
-                ap (λ x. priced (w + asks0) (a + acts0) (p + budget0) (after_turn s x)) ea,
-              );
-              second = (
-                no_end (λ end. ending_at set.told end focus1) (ended_at focus1 frames1) second,
-                record { at = 0; output = refl; shown = start kind },
-                ap (λ x. priced (w1 + asks1) (a1 + acts1) (p1 + budget1) (after_turn t x)) eb,
-              );
-            };
-            ending = ending_of set.told.labels (Trapped trap);
-            first_ends = refl;
-            second_ends = ap (λ l. Some (ending_of set.told.labels (Trapped l))) r.0;
-            output = ap (λ (x : WorldState). x.output) r.1;
-            shown = record { reach = omega (arith, lw, le); asks = omega arith; frames = omega (arith, long) };
-            allowed = record { acts = omega (arith, la, lc); paid = omega (arith, lp, lb) };
-          }))
+          last_turn (TrapOf trap u) (TrapOf other u') (ending_of set.told.labels (Trapped trap)) ea eb kind refl
+          (ap (λ l. Some (ending_of set.told.labels (Trapped l))) r.0) (ap (λ (x : WorldState). x.output) r.1)
+          (record { reach = omega (arith, lw, le); asks = omega arith; frames = omega (arith, long) })
       one_turn NoNext b ea eb r =
           goes_wrong i 0 1 s t (ap (λ o. (moment_at (running m set.told)
           (unless_ended o (running m set.told).step s)).ending)

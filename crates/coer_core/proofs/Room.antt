@@ -13,7 +13,7 @@ use Rattle.grift_base.specs.declared.operators.PrimOp.TheVariants.{MakeVector, V
 use Rattle.core_calc.specs.Terms.{both_in_front}
 use Rattle.core_calc.specs.Substitution.{entry_of, bind}
 use Rattle.cast_modes.specs.Modes.{Mode, Decision, Keeping, Wrapping, Rewrapping, Unwrapping, Injecting, Opening}
-use Rattle.cast_modes.specs.Modes.{Making, Blaming, NoCast, DynPart, PartCast, NoPart, NoType}
+use Rattle.cast_modes.specs.Modes.{Making, DynPart, PartCast, NoPart, NoType}
 use Rattle.cast_modes.specs.RunValues.{RunInt, RunBool, RunUnit, RunFun, RunTuple, RunLoc, RunWrap, RunInject}
 use Rattle.cast_modes.specs.RunValues.{NoRunValues, RunValueThen, in_row, row_list, all_plain, plain, shape_of}
 use Rattle.cast_modes.specs.RunValues.{run_cell_behind}
@@ -338,32 +338,10 @@ module _ (n : ℕ) where
       fit_make (Wrapping cast) v k f g = (f, g, fit_store)
       fit_make (Injecting kept) v k f g = (f, g, fit_store)
       fit_make (Making cast next) v k f g = (f, (tt, (tt, g)), fit_store)
-      fit_make (Blaming label) v k f g = tt
       fit_make (Rewrapping cast) (RunWrap v old) k f g = (f, g, fit_store)
       fit_make Unwrapping (RunWrap v old) k f g = (f, g, fit_store)
       fit_make (Opening cast) (RunInject v kept) k f g = (f, (tt, g), fit_store)
-      fit_make (Rewrapping cast) (RunInt i) k f g = tt
-      fit_make (Rewrapping cast) (RunBool b) k f g = tt
-      fit_make (Rewrapping cast) RunUnit k f g = tt
-      fit_make (Rewrapping cast) (RunFun code captured) k f g = tt
-      fit_make (Rewrapping cast) (RunTuple values) k f g = tt
-      fit_make (Rewrapping cast) (RunLoc cell is_vector) k f g = tt
-      fit_make (Rewrapping cast) (RunInject v kept) k f g = tt
-      fit_make Unwrapping (RunInt i) k f g = tt
-      fit_make Unwrapping (RunBool b) k f g = tt
-      fit_make Unwrapping RunUnit k f g = tt
-      fit_make Unwrapping (RunFun code captured) k f g = tt
-      fit_make Unwrapping (RunTuple values) k f g = tt
-      fit_make Unwrapping (RunLoc cell is_vector) k f g = tt
-      fit_make Unwrapping (RunInject v kept) k f g = tt
-      fit_make (Opening cast) (RunInt i) k f g = tt
-      fit_make (Opening cast) (RunBool b) k f g = tt
-      fit_make (Opening cast) RunUnit k f g = tt
-      fit_make (Opening cast) (RunFun code captured) k f g = tt
-      fit_make (Opening cast) (RunTuple values) k f g = tt
-      fit_make (Opening cast) (RunLoc cell is_vector) k f g = tt
-      fit_make (Opening cast) (RunWrap v old) k f g = tt
-      fit_make NoCast v k f g = tt
+      fit_make decision v k f g = tt
 
       fit_apply : (f : CoerValue C) (values : List (CoerValue C)) (k : List (CoerFrame C)) → FitValue f
           → FitList values → FitFrames k → FitAfter (apply mode code_arity entered store world f values k)
@@ -431,53 +409,26 @@ module _ (n : ℕ) where
       fit_proj_dyn : (v : CoerValue C) (i : ℤ) (label : ℕ) (k : List (CoerFrame C)) → FitValue v → FitFrames k
           → FitAfter (run_proj_dyn mode code_arity entered store world v i label k)
       fit_proj_dyn (RunInject v kept) i label k f g = fit_part (mode.dyn_part kept i label) v i label k f g
-      fit_proj_dyn (RunInt x) i label k f g = tt
-      fit_proj_dyn (RunBool x) i label k f g = tt
-      fit_proj_dyn RunUnit i label k f g = tt
-      fit_proj_dyn (RunFun code captured) i label k f g = tt
-      fit_proj_dyn (RunTuple parts) i label k f g = tt
-      fit_proj_dyn (RunLoc cell is_vector) i label k f g = tt
-      fit_proj_dyn (RunWrap v cast) i label k f g = tt
+      fit_proj_dyn v i label k f g = tt
 
       -- ---- operators
 
       fit_on_int : (go : ℤ → CoerAfter C) (values : List (CoerValue C)) → ((a : ℤ) → FitAfter (go a))
           → FitAfter (run_on_int mode code_arity entered store world go values)
-      fit_on_int go [] onward = tt
       fit_on_int go (RunInt a ∷ []) onward = onward a
       fit_on_int go (RunInt a ∷ (v ∷ rest)) onward = tt
-      fit_on_int go (RunBool b ∷ rest) onward = tt
-      fit_on_int go (RunUnit ∷ rest) onward = tt
-      fit_on_int go (RunFun code captured ∷ rest) onward = tt
-      fit_on_int go (RunTuple parts ∷ rest) onward = tt
-      fit_on_int go (RunLoc cell is_vector ∷ rest) onward = tt
-      fit_on_int go (RunWrap v cast ∷ rest) onward = tt
-      fit_on_int go (RunInject v kept ∷ rest) onward = tt
+      fit_on_int go values onward = tt
 
       fit_on_ints : (go : ℤ → ℤ → CoerAfter C) (values : List (CoerValue C)) → ((a b : ℤ) → FitAfter (go a b))
           → FitAfter (run_on_ints mode code_arity entered store world go values)
-      fit_on_ints go [] onward = tt
       fit_on_ints go (RunInt a ∷ rest) onward = fit_on_int (go a) rest (onward a)
-      fit_on_ints go (RunBool b ∷ rest) onward = tt
-      fit_on_ints go (RunUnit ∷ rest) onward = tt
-      fit_on_ints go (RunFun code captured ∷ rest) onward = tt
-      fit_on_ints go (RunTuple parts ∷ rest) onward = tt
-      fit_on_ints go (RunLoc cell is_vector ∷ rest) onward = tt
-      fit_on_ints go (RunWrap v cast ∷ rest) onward = tt
-      fit_on_ints go (RunInject v kept ∷ rest) onward = tt
+      fit_on_ints go values onward = tt
 
       fit_on_bool : (go : Bool → CoerAfter C) (values : List (CoerValue C)) → ((b : Bool) → FitAfter (go b))
           → FitAfter (run_on_bool mode code_arity entered store world go values)
-      fit_on_bool go [] onward = tt
       fit_on_bool go (RunBool b ∷ []) onward = onward b
       fit_on_bool go (RunBool b ∷ (v ∷ rest)) onward = tt
-      fit_on_bool go (RunInt a ∷ rest) onward = tt
-      fit_on_bool go (RunUnit ∷ rest) onward = tt
-      fit_on_bool go (RunFun code captured ∷ rest) onward = tt
-      fit_on_bool go (RunTuple parts ∷ rest) onward = tt
-      fit_on_bool go (RunLoc cell is_vector ∷ rest) onward = tt
-      fit_on_bool go (RunWrap v cast ∷ rest) onward = tt
-      fit_on_bool go (RunInject v kept ∷ rest) onward = tt
+      fit_on_bool go values onward = tt
 
       fit_or_trap : (o : Option (CoerValue C)) (place : ℕ) (go : ℕ → CoerValue C → CoerAfter C) → FitOption FitValue o
           → ((i : ℕ) (v : CoerValue C) → FitValue v → FitAfter (go i v))
@@ -506,7 +457,6 @@ module _ (n : ℕ) where
 
       fit_unbox : (values : List (CoerValue C)) (k : List (CoerFrame C)) → FitList values → FitFrames k
           → FitAfter (run_unbox mode code_arity entered store world values k)
-      fit_unbox [] k f g = tt
       fit_unbox (RunLoc cell false ∷ []) k f g =
           fit_some FitList (slice_get store cell) _ (fit_cell store cell fit_store) (λ values p. fit_unbox_cell values k
           p g)
@@ -520,16 +470,10 @@ module _ (n : ℕ) where
       fit_unbox (RunWrap v cast ∷ []) k f g =
           fit_any (mode.reading cast) _ (λ part. (f.0, (tt, (tt, g)), fit_store))
       fit_unbox (RunWrap v cast ∷ (u ∷ rest)) k f g = tt
-      fit_unbox (RunInt a ∷ rest) k f g = tt
-      fit_unbox (RunBool b ∷ rest) k f g = tt
-      fit_unbox (RunUnit ∷ rest) k f g = tt
-      fit_unbox (RunFun code captured ∷ rest) k f g = tt
-      fit_unbox (RunTuple parts ∷ rest) k f g = tt
-      fit_unbox (RunInject v kept ∷ rest) k f g = tt
+      fit_unbox values k f g = tt
 
       fit_box_set : (values : List (CoerValue C)) (k : List (CoerFrame C)) → FitList values → FitFrames k
           → FitAfter (run_box_set mode code_arity entered store world values k)
-      fit_box_set [] k f g = tt
       fit_box_set (RunLoc cell false ∷ (v ∷ [])) k f g =
           fit_some FitList (slice_get store cell) _ (fit_cell store cell fit_store)
           (λ old p. (tt, g, fit_set_cell store cell (v ∷ []) fit_store (f.1.0, tt)))
@@ -542,16 +486,10 @@ module _ (n : ℕ) where
           fit_any (mode.writing cast) _ (λ part. (f.1.0, (tt, ((f.0, tt), g)), fit_store))
       fit_box_set (RunWrap box cast ∷ []) k f g = tt
       fit_box_set (RunWrap box cast ∷ (v ∷ (u ∷ rest))) k f g = tt
-      fit_box_set (RunInt a ∷ rest) k f g = tt
-      fit_box_set (RunBool b ∷ rest) k f g = tt
-      fit_box_set (RunUnit ∷ rest) k f g = tt
-      fit_box_set (RunFun code captured ∷ rest) k f g = tt
-      fit_box_set (RunTuple parts ∷ rest) k f g = tt
-      fit_box_set (RunInject v kept ∷ rest) k f g = tt
+      fit_box_set values k f g = tt
 
       fit_vector : (values : List (CoerValue C)) (k : List (CoerFrame C)) → FitList values → FitFrames k
           → FitAfter (run_make_vector mode code_arity entered store world values k)
-      fit_vector [] k f g = tt
       fit_vector (RunInt (pos i) ∷ (v ∷ [])) k f g =
           (tt, g, fit_new_cell store (replicate i v) fit_store (fit_replicate i v f.1.0))
       fit_vector (RunInt (negsuc i) ∷ (v ∷ [])) k f g = tt
@@ -559,13 +497,7 @@ module _ (n : ℕ) where
       fit_vector (RunInt (negsuc i) ∷ []) k f g = tt
       fit_vector (RunInt (pos i) ∷ (v ∷ (u ∷ rest))) k f g = tt
       fit_vector (RunInt (negsuc i) ∷ (v ∷ (u ∷ rest))) k f g = tt
-      fit_vector (RunLoc cell is_vector ∷ rest) k f g = tt
-      fit_vector (RunWrap v cast ∷ rest) k f g = tt
-      fit_vector (RunBool b ∷ rest) k f g = tt
-      fit_vector (RunUnit ∷ rest) k f g = tt
-      fit_vector (RunFun code captured ∷ rest) k f g = tt
-      fit_vector (RunTuple parts ∷ rest) k f g = tt
-      fit_vector (RunInject v kept ∷ rest) k f g = tt
+      fit_vector values k f g = tt
 
       fit_vector_ref : (values : List (CoerValue C)) (k : List (CoerFrame C)) → FitList values → FitFrames k
           → FitAfter (run_vector_ref mode code_arity entered store world values k)

@@ -317,6 +317,31 @@ module _ (types : TypeRows) (table : IsOrderedTable types) (rows : List TypeCast
         → Fits under1 first second
     opens_fits p norm stands = of (weighs e1 kept (Edge label wanted more) s p norm stands)
       where
+        -- wrappers are opened
+        wide : (asks extra budget : ℕ) → asks ≤ half + 3 → budget ≤ 896 + 64 * half + 896 * extra
+            → Within types rows measures under1 asks (1 + extra) budget (tolls1 k u (e1 ∷ []))
+            → rows_kind (R kept) (R wanted) ≡ Wraps
+            → OneMore extra (first_clash R kept (Edge label wanted rest))
+            (is_dyn (R (last_type c.to (steps_of cs)))) → Fits under1 first second
+        wide asks extra budget few cheap w wraps ok =
+            let large = effort_large (cast_kind (row_at types kept) (row_at types wanted)) in
+            let both = opens_within asks (1 + extra) budget (half + 13) (896 + 64 * half) large.0 large.1 w in
+            let pay : Pays types rows measures under Wraps (suc extra) first =
+            subst (λ z. Pays types rows measures under z (suc extra) first) wraps (pays extra ok) in
+            let a = pay.most in
+            let b = pay.budget in
+            let acts = pay.acts in
+            let x = both.asks in
+            let y = both.budget in
+            let made = both.acts in
+            let z = two_halves in
+            record {
+              asks = omega (arith, a, x, z, few);
+              acts = omega (arith, acts, made);
+              budget = omega (arith, b, y, z, cheap);
+              frames = both.frames;
+            }
+
         light_at : Within types rows measures under1 3 1 896 (tolls1 k u (e1 ∷ []))
             → (opened ≡ Opens) ⊎ (rows_kind (R kept) (R wanted) ≡ Wraps) → Fits under1 first second
         light_at w (inl o) =
@@ -335,28 +360,12 @@ module _ (types : TypeRows) (table : IsOrderedTable types) (rows : List TypeCast
               budget = omega (arith, b, l, y);
               frames = both.frames;
             }
-        light_at w (inr wraps) =
-            let large = effort_large (cast_kind (row_at types kept) (row_at types wanted)) in
-            let both = opens_within 3 1 896 (half + 13) (896 + 64 * half) large.0 large.1 w in
-            let pay : Pays types rows measures under Wraps (suc 0) first =
-            subst (λ z. Pays types rows measures under z (suc 0) first) wraps (pays 0 (inl refl)) in
-            let a = pay.most in
-            let b = pay.budget in
-            let acts = pay.acts in
-            let x = both.asks in
-            let y = both.budget in
-            let made = both.acts in
-            let z = two_halves in
-            record {
-              asks = omega (arith, a, x, z);
-              acts = omega (arith, acts, made);
-              budget = omega (arith, b, y, z);
-              frames = both.frames;
-            }
+        light_at w (inr wraps) = wide 3 0 896 (omega arith) (omega arith) w wraps (inl refl)
 
         of : Weighs e1 kept (Edge label wanted more) → Fits under1 first second
         of (little w) = light_at (w k u) (opens_as kept wanted)
-        of (much edge extra more_at w) = heavy_at
+        of (much edge extra more_at w) =
+            wide (half + 3) extra (896 + 64 * half + 896 * extra) (omega arith) (omega arith) (w k u) wraps ok
           where
             same_wanted : Edge edge.label edge.wanted edge.rest ≡ Edge label wanted rest → edge.wanted ≡ wanted
             same_wanted h = cc h
@@ -368,25 +377,3 @@ module _ (types : TypeRows) (table : IsOrderedTable types) (rows : List TypeCast
             ok =
                 subst (λ t. OneMore extra (first_clash R kept (Edge label wanted rest)) (is_dyn (R t))) ends
                 (subst (λ z. OneMore extra (first_clash R kept z) (is_dyn (R (last_type wanted more)))) same more_at)
-
-            heavy_at : Fits under1 first second
-            heavy_at =
-                let large = effort_large (cast_kind (row_at types kept) (row_at types wanted)) in
-                let both = opens_within (half + 3) (1 + extra) (896 + 64 * half + 896 * extra) (half + 13)
-                (896 + 64 * half) large.0
-                large.1 (w k u) in
-                let pay : Pays types rows measures under Wraps (suc extra) first =
-                subst (λ z. Pays types rows measures under z (suc extra) first) wraps (pays extra ok) in
-                let a = pay.most in
-                let b = pay.budget in
-                let acts = pay.acts in
-                let x = both.asks in
-                let y = both.budget in
-                let made = both.acts in
-                let z = two_halves in
-                record {
-                  asks = omega (arith, a, x, z);
-                  acts = omega (arith, acts, made);
-                  budget = omega (arith, b, y, z);
-                  frames = both.frames;
-                }
