@@ -1,9 +1,8 @@
 -- What steps of the conversion add, one after another.
-use Rattle.std.proofs.Common.{◌≡◌, ℕ, suc, ◌+◌, Bool, true, false, cond, List, [], ◌∷◌, ◌++◌, length, map, refl, sym}
+use Rattle.std.proofs.Common.{◌≡◌, ℕ, ◌+◌, List, [], ◌∷◌, ◌++◌, length, refl, sym}
 use Rattle.std.proofs.Common.{ap}
-use Rattle.std.proofs.Common.{◌∙◌, subst, arith, append_assoc}
+use Rattle.std.proofs.Common.{◌∙◌, subst, arith, append_assoc, append-nil}
 use Rattle.flat_ir.specs.Bodies.{Proc}
-use Rattle.flat_ir.specs.declared.programs.FlatProc.{FlatProc}
 use Rattle.flat_ir.specs.Views.{procs_of as procs_in_memory}
 use Rattle.coer_core.specs.Counts.{names_besides}
 use Rattle.closure_convert.specs.Conversion.{Scope}
@@ -11,14 +10,10 @@ use Rattle.closure_convert.specs.Converting.{State, Adds, Hides}
 use Rattle.closure_convert.specs.Scopes.{Reaches, with_free, with_all_free}
 use Rattle.closure_convert.proofs.Meeting.{free_append, reaches_before}
 
-append_none : {A : Type 0} (xs : List A) → xs ++ [] ≡ xs
-append_none [] = refl
-append_none (x ∷ xs) = ap (λ r. x ∷ r) (append_none xs)
-
 pub adds_nothing : (scope : Scope) (a : State) → Adds scope a a [] (λ n. []) 0
 adds_nothing scope a = record {
   captured = refl;
-  procs = sym (append_none (procs_in_memory a.procs));
+  procs = sym (append-nil (procs_in_memory a.procs));
   count = omega arith;
 }
 
@@ -27,7 +22,7 @@ pub adds_name : (scope : Scope) (a b : State) (name : ℕ) → b.captured ≡ wi
     → b.procs ≡ a.procs → Adds scope a b (name ∷ []) (λ n. []) 0
 adds_name scope a b name c p = record {
   captured = c;
-  procs = ap procs_in_memory p ∙ sym (append_none (procs_in_memory a.procs));
+  procs = ap procs_in_memory p ∙ sym (append-nil (procs_in_memory a.procs));
   count = let e : length b.procs ≡ length a.procs = ap length p in omega arith;
 }
 

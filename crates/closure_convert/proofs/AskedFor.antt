@@ -14,7 +14,6 @@ use Rattle.cast_modes.specs.RunValues.{RunInt, shape_of}
 use Rattle.cast_modes.specs.ValueSteps.{CastFrame, PrimFrame, Own, Return, onto, decision_words, operator_words}
 use Rattle.coer_core.specs.Tally.{decision_kind, kind_asks}
 use Rattle.coer_core.specs.MergedTally.{effort, half_charge, effort_asks}
-use Rattle.flat_ir.specs.declared.code.Operand.{Operand}
 use Rattle.flat_ir.specs.declared.code.Operation.{Operation}
 use Rattle.flat_ir.specs.declared.code.Operation.TheVariants.{Prim, Cast, Tuple}
 use Rattle.flat_ir.specs.Bodies.{Body, Give, LetGroup, Proc}

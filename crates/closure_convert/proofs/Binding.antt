@@ -1,5 +1,5 @@
 -- Groups and bindings: what is known in the bodies behind them.
-use Rattle.std.proofs.Common.{◌≡◌, ◌<◌, ℕ, suc, ◌+◌, List, [], ◌∷◌, ◌++◌, length, refl, sym, ap, ◌∙◌, arith}
+use Rattle.std.proofs.Common.{◌≡◌, ◌<◌, ℕ, ◌+◌, List, [], length, ap, ◌∙◌, arith}
 use Rattle.flat_ir.specs.declared.code.Operand.{Operand}
 use Rattle.flat_ir.specs.declared.code.Operand.TheVariants.{Local}
 use Rattle.flat_ir.specs.Bodies.{Body, LetGroup}

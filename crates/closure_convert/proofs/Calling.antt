@@ -29,7 +29,7 @@ use Rattle.closure_convert.proofs.Carrying.{firsts, seconds, means, group_of, St
 use Rattle.closure_convert.proofs.Carrying.{Carries, Fits, CarriesAll, Covers, covers_left, covers_right, group_covers}
 use Rattle.closure_convert.proofs.Carrying.{fun_covers, fits_extend, parameters_hold, group_fits, captured_fits}
 use Rattle.closure_convert.proofs.Carrying.{fun_scope_below, fits_row, captured_means}
-use Rattle.closure_convert.proofs.Relation.{Pends, Wait, Cells, InCode}
+use Rattle.closure_convert.proofs.Relation.{Pends, Wait, Cells, in_code}
 use Rattle.closure_convert.proofs.Agreeing.{wrap_carried, onto_carried, as_long, Agree, a_some}
 
 -- what parameters are bound to
@@ -137,22 +137,14 @@ module _ {C : Type 0} (procs : List Proc) (mode : Mode C) where
           let held1 : CarriesAll procs (seconds bound) (values l own os) =
           subst (λ x. CarriesAll procs x (values l own os)) (sym b.1)
           (subst (CarriesAll procs vs) (sym (parameters_hold parameters us own long)) c) in
-          let inside : InCode procs mode body (bound ++ env) (Own (Inside inner l own)) = record {
-            scope = fun_scope names caps parameters;
-            depth = length parameters;
-            next = next;
-            l = l;
-            own = own;
-            runs = refl;
-            knows = record {
-              fits = subst (λ n. Fits procs (bound ++ env) (means (bind_operands n os (group_scope names caps)) l own))
-                  b.0
-                  (fits_extend procs bound os env (group_scope names caps) l own held1 fits);
-              below = fun_scope_below names caps parameters;
-            };
-            covers = covers;
-            stands = st;
-          } in
+          let inside =
+          in_code procs mode body (bound ++ env) (fun_scope names caps parameters) (length parameters) next l own
+          (record {
+            fits = subst (λ n. Fits procs (bound ++ env) (means (bind_operands n os (group_scope names caps)) l own))
+                b.0
+                (fits_extend procs bound os env (group_scope names caps) l own held1 fits);
+            below = fun_scope_below names caps parameters;
+          }) covers st in
           let enough : nat_eq (length us) (length parameters) ≡ true =
           eq-eqb (length us) (length parameters) (sym long) in
           subst (λ b. BothEnter (Some (Eval body (bound ++ env))) (if b then Some (Inside inner l own) else None))

@@ -67,12 +67,36 @@ Below depth (IntConst n) = Unit {0}
 Below depth (BoolConst b) = Unit {0}
 Below depth UnitConst = Unit {0}
 
+-- what is so of each operand, and of each that a name means
+abbrev pub Each : (Operand → Type 0) → List Operand → Type 0
+Each P [] = Unit {0}
+Each P (o ∷ os) = P o × Each P os
+
+abbrev pub EachMeaning : (Operand → Type 0) → Scope → Type 0
+EachMeaning P scope = (name : ℕ) (o : Operand) → scope name ≡ Some o → P o
+
+pub each_append : (P : Operand → Type 0) (os ps : List Operand) → Each P os → Each P ps → Each P (os ++ ps)
+each_append P [] ps h k = k
+each_append P (o ∷ os) ps h k = (h.0, each_append P os ps h.1 k)
+
+-- names are bound to such operands
+pub each_bound : (P : Operand → Type 0) (names : List ℕ) (os : List Operand) (scope : Scope) → Each P os
+    → EachMeaning P scope → EachMeaning P (bind_operands names os scope)
+each_bound P [] os scope h k = k
+each_bound P (name ∷ names) [] scope h k = k
+each_bound P (name ∷ names) (o ∷ os) scope h k =
+    λ other p e. by_test (each_bound P names os scope h.1 k) other p (nat_eq other name) e
+  where
+    by_test : EachMeaning P (bind_operands names os scope) → (other : ℕ) (p : Operand) (b : Bool)
+        → cond b (Some o) (bind_operands names os scope other) ≡ Some p → P p
+    by_test ih other p true e = subst P (same_some o p e) h.0
+    by_test ih other p false e = ih other p e
+
 abbrev pub AllBelow : ℕ → List Operand → Type 0
-AllBelow depth [] = Unit {0}
-AllBelow depth (o ∷ os) = Below depth o × AllBelow depth os
+AllBelow depth os = Each (Below depth) os
 
 abbrev pub ScopeBelow : ℕ → Scope → Type 0
-ScopeBelow depth scope = (name : ℕ) (o : Operand) → scope name ≡ Some o → Below depth o
+ScopeBelow depth scope = EachMeaning (Below depth) scope
 
 pub below_more : (depth more : ℕ) (o : Operand) → depth ≤ more → Below depth o → Below more o
 below_more depth more (Local i) le h = omega arith
@@ -88,23 +112,6 @@ all_below_more depth more (o ∷ os) le h = (below_more depth more o le h.0, all
 
 pub scope_below_more : (depth more : ℕ) (scope : Scope) → depth ≤ more → ScopeBelow depth scope → ScopeBelow more scope
 scope_below_more depth more scope le h name o e = below_more depth more o le (h name o e)
-
-pub all_below_append : (depth : ℕ) (os ps : List Operand) → AllBelow depth os → AllBelow depth ps
-    → AllBelow depth (os ++ ps)
-all_below_append depth [] ps h k = k
-all_below_append depth (o ∷ os) ps h k = (h.0, all_below_append depth os ps h.1 k)
-
-pub bound_below : (depth : ℕ) (names : List ℕ) (os : List Operand) (scope : Scope) → AllBelow depth os
-    → ScopeBelow depth scope → ScopeBelow depth (bind_operands names os scope)
-bound_below depth [] os scope h k = k
-bound_below depth (name ∷ names) [] scope h k = k
-bound_below depth (name ∷ names) (o ∷ os) scope h k =
-    λ other p e. by_test (bound_below depth names os scope h.1 k) other p (nat_eq other name) e
-  where
-    by_test : ScopeBelow depth (bind_operands names os scope) → (other : ℕ) (p : Operand) (b : Bool)
-        → cond b (Some o) (bind_operands names os scope other) ≡ Some p → Below depth p
-    by_test ih other p true e = subst (Below depth) (same_some o p e) h.0
-    by_test ih other p false e = ih other p e
 
 -- ---- which names have a meaning
 
@@ -251,10 +258,10 @@ pub fun_scope_below : (names captured parameters : List ℕ) → ScopeBelow (len
     (fun_scope names captured parameters)
 fun_scope_below names captured parameters =
     let n = length parameters in
-    bound_below n parameters (numbered (λ i. Local i) parameters 0) (group_scope names captured)
+    each_bound (Below n) parameters (numbered (λ i. Local i) parameters 0) (group_scope names captured)
     (locals_below parameters 0 n (omega arith))
-    (bound_below n names (numbered (λ i. Sibling i) names 0) (captured_scope captured) (siblings_below names 0 n)
-    (bound_below n captured (numbered (λ i. Captured i) captured 0) nothing_known (captured_below captured 0 n)
+    (each_bound (Below n) names (numbered (λ i. Sibling i) names 0) (captured_scope captured) (siblings_below names 0 n)
+    (each_bound (Below n) captured (numbered (λ i. Captured i) captured 0) nothing_known (captured_below captured 0 n)
     (λ name o e. none_some e)))
 
 module _ (procs : List Proc) where

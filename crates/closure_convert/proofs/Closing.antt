@@ -1,5 +1,5 @@
 -- The procedures of a program are closed.
-use Rattle.std.proofs.Common.{◌≡◌, ℕ, suc, ◌+◌, ◌<◌, ◌≤◌, Bool, true, false, cond, nat_eq, nat_lt}
+use Rattle.std.proofs.Common.{◌≡◌, ℕ, suc, ◌+◌, ◌<◌, ◌≤◌, Bool, true, false, nat_lt}
 use Rattle.std.proofs.Common.{nat_le, ◌&&◌, ◌==◌, List, [], ◌∷◌, ◌++◌, length, Option, Some, None, slice_get, refl, sym}
 use Rattle.std.proofs.Common.{ap}
 use Rattle.std.proofs.Common.{subst, arith, length-append, eq-eqb, lt-ltb, le-leb, append_assoc}
@@ -27,7 +27,8 @@ use Rattle.closure_convert.specs.Conversion.{made_in, made_by, atom, placed, if_
 use Rattle.closure_convert.specs.Conversion.{gather_let, sequence, own_procs, procs_of, procs_for, procs_in, procs_by}
 use Rattle.closure_convert.specs.Conversion.{entry_proc, converted}
 use Rattle.closure_convert.proofs.ProcPlaces.{HasAt}
-use Rattle.closure_convert.proofs.Carrying.{none_some, same_some, Stands, StandsFor, StandsIn, StandsBy}
+use Rattle.closure_convert.proofs.Carrying.{none_some, same_some, Each, EachMeaning, each_append, each_bound, Stands}
+use Rattle.closure_convert.proofs.Carrying.{StandsFor, StandsIn, StandsBy}
 use Rattle.closure_convert.proofs.Moves.{meanings_long, names_long}
 use Rattle.closure_convert.proofs.Standing.{program_stands, entry_stands}
 use Rattle.closure_convert.proofs.Fine.{count, Fine, FineFor, FineIn, FineBy}
@@ -49,8 +50,7 @@ module _ (c g : ℕ) where
   OperandBound depth UnitConst = Unit {0}
 
   abbrev OperandsBound : ℕ → List Operand → Type 0
-  OperandsBound depth [] = Unit {0}
-  OperandsBound depth (o ∷ os) = OperandBound depth o × OperandsBound depth os
+  OperandsBound depth os = Each (OperandBound depth) os
 
   abbrev OperationBound : ℕ → Operation → Type 0
   OperationBound depth (Move o) = OperandBound depth o
@@ -135,7 +135,7 @@ module _ (procs : List Proc) where
 
   module _ (c g : ℕ) where
     abbrev ScopeBound : ℕ → Scope → Type 0
-    ScopeBound depth scope = (name : ℕ) (o : Operand) → scope name ≡ Some o → OperandBound c g depth o
+    ScopeBound depth scope = EachMeaning (OperandBound c g depth) scope
 
     operand_more : (depth more : ℕ) (o : Operand) → depth ≤ more → OperandBound c g depth o → OperandBound c g more o
     operand_more depth more (Local i) le h = omega arith
@@ -152,23 +152,6 @@ module _ (procs : List Proc) where
 
     scope_more : (depth more : ℕ) (scope : Scope) → depth ≤ more → ScopeBound depth scope → ScopeBound more scope
     scope_more depth more scope le h name o e = operand_more depth more o le (h name o e)
-
-    operands_append : (depth : ℕ) (os ps : List Operand) → OperandsBound c g depth os → OperandsBound c g depth ps
-        → OperandsBound c g depth (os ++ ps)
-    operands_append depth [] ps h k = k
-    operands_append depth (o ∷ os) ps h k = (h.0, operands_append depth os ps h.1 k)
-
-    bind_bound : (depth : ℕ) (names : List ℕ) (os : List Operand) (scope : Scope) → OperandsBound c g depth os
-        → ScopeBound depth scope → ScopeBound depth (bind_operands names os scope)
-    bind_bound depth [] os scope h k = k
-    bind_bound depth (name ∷ names) [] scope h k = k
-    bind_bound depth (name ∷ names) (o ∷ os) scope h k =
-        λ other p e. by_test (bind_bound depth names os scope h.1 k) other p (nat_eq other name) e
-      where
-        by_test : ScopeBound depth (bind_operands names os scope) → (other : ℕ) (p : Operand) (b : Bool)
-            → cond b (Some o) (bind_operands names os scope other) ≡ Some p → OperandBound c g depth p
-        by_test ih other p true e = subst (OperandBound c g depth) (same_some o p e) h.0
-        by_test ih other p false e = ih other p e
 
     or_unit_bound : (depth name : ℕ) (scope : Scope) → ScopeBound depth scope → (m : Option Operand) → scope name ≡ m
         → OperandBound c g depth (operand_or_unit m)
@@ -254,15 +237,16 @@ module _ (procs : List Proc) where
                 (own_procs names caps n 0 funs next)) (sym long) st.0.1),
             meanings_bound depth caps scope h,
             code_bound body (bind_operands names (numbered (λ i. Local i) names depth) scope) deep
-                (next + made_in funs + row_member_count funs) ev.1 st.1 (bind_bound deep names (numbered
+                (next + made_in funs + row_member_count funs) ev.1 st.1
+                (each_bound (OperandBound c g deep) names (numbered
                 (λ i. Local i) names depth) scope (locals_bound names depth deep (omega arith))
                 (scope_more depth deep scope (omega arith) h)),
           )
       code_bound (RowLet terms body) scope depth next ev st h =
           let_bound terms scope depth next [] (λ os deep. code body (bind_operands (row_binding_names terms) os scope)
           deep (next + made_by terms)) ev.0 st.0 h tt (λ os deep le b. code_bound body (bind_operands
-          (row_binding_names terms) os scope) deep (next + made_by terms) ev.1 st.1 (bind_bound deep
-          (row_binding_names terms) os scope b (scope_more depth deep scope le h)))
+          (row_binding_names terms) os scope) deep (next + made_by terms) ev.1 st.1 (each_bound (OperandBound c g
+          deep) (row_binding_names terms) os scope b (scope_more depth deep scope le h)))
       code_bound (RowCall f terms) scope depth next ev st h =
           placed_bound (atom f scope) depth (code f scope depth next) _ (λ o e. atom_bound depth f scope o ev.0 h e)
           (code_bound f scope depth next ev.0 st.0 h) (λ o deep le b. gather_bound terms scope deep (next + made f)
@@ -312,7 +296,7 @@ module _ (procs : List Proc) where
           placed_bound (atom term scope) depth (code term scope depth next) _ (λ o q. atom_bound depth term scope o ev.0
           h q) (code_bound term scope depth next ev.0 st.0 h) (λ o deep le ob. gather_bound rest scope deep
           (next + made term) (before ++ o ∷ []) finish ev.1 st.1 (scope_more depth deep scope le h)
-          (operands_append deep before (o ∷ []) (operands_more depth deep before le b) (ob, tt))
+          (each_append (OperandBound c g deep) before (o ∷ []) (operands_more depth deep before le b) (ob, tt))
           (λ os last le' bs n. k os last (omega arith) bs (let z = length-append before (o ∷ []) in omega
           (arith, n, z))))
 
@@ -325,7 +309,7 @@ module _ (procs : List Proc) where
           placed_bound (atom term scope) depth (code term scope depth next) _ (λ o q. atom_bound depth term scope o ev.0
           h q) (code_bound term scope depth next ev.0 st.0 h) (λ o deep le ob. let_bound rest scope deep
           (next + made term) (before ++ o ∷ []) finish ev.1 st.1 (scope_more depth deep scope le h)
-          (operands_append deep before (o ∷ []) (operands_more depth deep before le b) (ob, tt))
+          (each_append (OperandBound c g deep) before (o ∷ []) (operands_more depth deep before le b) (ob, tt))
           (λ os last le' bs. k os last (omega arith) bs))
 
       sequence_bound : (terms : RowTerms) (scope : Scope) (depth next : ℕ) → FineFor terms → StandsFor procs terms next
@@ -373,11 +357,13 @@ module _ (procs : List Proc) where
   own_bound names captured parameters group body next le ev st =
       let c = length captured in
       let n = length parameters in
-      let known = bind_bound c group n captured (numbered (λ i. Captured i) captured 0) nothing_known
+      let known = each_bound (OperandBound c group n) captured (numbered (λ i. Captured i) captured 0) nothing_known
       (captures_bound c group captured 0 n (omega arith)) (λ name o e. none_some e) in
-      let siblings = bind_bound c group n names (numbered (λ i. Sibling i) names 0) (captured_scope captured)
+      let siblings = each_bound (OperandBound c group n) names (numbered (λ i. Sibling i) names 0)
+      (captured_scope captured)
       (siblings_bound c group names 0 n (omega arith)) known in
-      let all = bind_bound c group n parameters (numbered (λ i. Local i) parameters 0) (group_scope names captured)
+      let all = each_bound (OperandBound c group n) parameters (numbered (λ i. Local i) parameters 0)
+      (group_scope names captured)
       (locals_bound c group parameters 0 n (omega arith)) siblings in
       code_bound c group body (fun_scope names captured parameters) n next ev st all
 

@@ -1,5 +1,5 @@
 -- The forms that end a body, and those behind which it goes on.
-use Rattle.std.proofs.Common.{◌≡◌, ℕ, suc, ◌+◌, ℤ, List, [], ◌∷◌, ◌++◌, length, Option, Some, None, refl, sym, ap, ◌∙◌}
+use Rattle.std.proofs.Common.{◌≡◌, ℕ, ◌+◌, ℤ, List, [], ◌∷◌, ◌++◌, length, refl, sym, ap, ◌∙◌}
 use Rattle.std.proofs.Common.{subst, arith, append_assoc}
 use Rattle.grift_base.specs.declared.operators.PrimOp.{PrimOp}
 use Rattle.flat_ir.specs.declared.code.Operand.{Operand}
@@ -8,18 +8,24 @@ use Rattle.flat_ir.specs.declared.code.Operation.TheVariants.{Move, Prim, Cast, 
 use Rattle.flat_ir.specs.Bodies.{Body, Call, Choose, Give, LetGroup, Proc}
 use Rattle.coer_core.specs.Terms.{RowTerm, RowTerms, RowMembers, RowBindings, RowCall, RowCast, RowGroup, RowIf}
 use Rattle.coer_core.specs.Terms.{RowLambda}
-use Rattle.coer_core.specs.Terms.{RowLet, RowPrim, RowProj, RowProjDyn, RowSeq, RowTuple, RowVar}
+use Rattle.coer_core.specs.Terms.{RowLet, RowPrim, RowProj, RowProjDyn, RowTuple}
 use Rattle.coer_core.specs.Counts.{free_names, free_names_of_all, free_names_of_bindings, free_names_of_members}
 use Rattle.coer_core.specs.Counts.{names_besides, row_binding_names, row_member_count, row_member_names}
+use Rattle.coer_core.specs.Views.{row_term_of, row_terms_of}
+use Rattle.coer_core.specs.declared.terms.CoerList.{CoerList}
+use Rattle.coer_core.specs.declared.terms.CoerTerm.{CoerTerm}
+use Rattle.flat_ir.specs.declared.code.FlatBody.{FlatBody}
+use Rattle.flat_ir.specs.Views.{body_of}
+use Rattle.closure_convert.specs.declared.conversion.Converter.{Converter}
 use Rattle.closure_convert.specs.declared.waits.Wait.{Wait}
+use Rattle.closure_convert.specs.declared.waits.Waits.{Waits}
 use Rattle.closure_convert.specs.Conversion.{Scope, alone, call_of, captures, code, gather, label_id, made, made_by}
 use Rattle.closure_convert.specs.Conversion.{made_for}
 use Rattle.closure_convert.specs.Conversion.{made_in, meanings_of, own_procs, procs_by, procs_for, procs_in, procs_of}
-use Rattle.closure_convert.specs.Conversion.{sequence}
-use Rattle.closure_convert.specs.Converting.{State, Adds, Hides, group_procs}
-use Rattle.closure_convert.specs.Scopes.{Reaches, over, with_all_free}
+use Rattle.closure_convert.specs.Converting.{State, Adds, Hides, group_procs, seen, state}
+use Rattle.closure_convert.specs.Scopes.{Reaches, known, over}
 use Rattle.closure_convert.specs.Waits.{Puts, ahead}
-use Rattle.closure_convert.proofs.Adding.{adds_nothing, adds_outside, adds_same, adds_then, grows}
+use Rattle.closure_convert.proofs.Adding.{adds_outside, adds_same, adds_then, grows}
 use Rattle.closure_convert.proofs.Meeting.{besides_append}
 use Rattle.closure_convert.proofs.Placing.{Placed}
 
@@ -31,44 +37,58 @@ pub record Gathered (s : Scope) (a b : State) (v w : List Wait) (d : ℕ) (terms
       → ahead w (finish (front ++ after))
       ≡ ahead v (gather terms (over s outer) d (length a.procs) (front ++ before) finish)
 
-pub gathered_in : (s z : Scope) (a b : State) (v w : List Wait) (d : ℕ) (terms : RowTerms) (before after : List Operand)
+pub gathered_in : {s z : Scope} {a b : State} {v w : List Wait} {d : ℕ} {terms : RowTerms} {before after : List Operand}
     → s ≡ z → Gathered s a b v w d terms before after → Gathered z a b v w d terms before after
-gathered_in s z a b v w d terms before after same p = subst (λ x. Gathered x a b v w d terms before after) same p
+gathered_in {a = a} {b = b} {v = v} {w = w} {d = d} {terms = terms} {before = before} {after = after} same p = subst
+    (λ x. Gathered x a b v w d terms before after) same p
+
+-- what gathering the operands for terms ensures, where this is known
+pub gathered_by : {s : Scope} (before after : Converter) (v w : Waits) (terms : CoerList) (old os : List Operand)
+    → known before.names ≡ s → old ≡ []
+    → Adds (known before.names) (state before) (state after) (free_names_of_all (row_terms_of terms))
+    (procs_for (row_terms_of terms)) (made_for (row_terms_of terms))
+    → ((outer : Scope) → Reaches after.names.captured outer → (front : List Operand) (finish : List Operand → Body)
+    → ahead w.waits.items (finish (front ++ os))
+    ≡ ahead v.waits.items (gather (row_terms_of terms) (seen before outer) v.depth (length before.procs)
+    (front ++ old) finish))
+    → Gathered s (state before) (state after) v.waits.items w.waits.items v.depth (row_terms_of terms) [] os
+gathered_by before after v w terms old os same none adds at =
+    gathered_in same (subst (λ x. Gathered (known before.names) (state before) (state after) v.waits.items
+    w.waits.items v.depth (row_terms_of terms) x os) none (record { adds = adds; at = at }))
 
 -- the body for a term, between these states
 pub record Coded (s : Scope) (a b : State) (d : ℕ) (t : RowTerm) (body : Body) : Type 0 where
   pub adds : Adds s a b (free_names t) (procs_of t) (made t)
   pub at : (outer : Scope) → Reaches b.captured outer → body ≡ code t (over s outer) d (length a.procs)
 
-pub coded_in : (s z : Scope) (a b : State) (d : ℕ) (t : RowTerm) (body : Body) → s ≡ z → Coded s a b d t body
+pub coded_in : {s z : Scope} {a b : State} {d : ℕ} {t : RowTerm} {body : Body}
+    → s ≡ z → Coded s a b d t body
     → Coded z a b d t body
-coded_in s z a b d t body same p = subst (λ x. Coded x a b d t body) same p
+coded_in {a = a} {b = b} {d = d} {t = t} {body = body} same p = subst (λ x. Coded x a b d t body) same p
+
+-- what the code for a term ensures, where this is known
+pub coded_by : {s : Scope} (before after : Converter) (d : ℕ) (term : CoerTerm) (body : FlatBody)
+    → known before.names ≡ s
+    → Adds (known before.names) (state before) (state after) (free_names (row_term_of term))
+    (procs_of (row_term_of term)) (made (row_term_of term))
+    → ((outer : Scope) → Reaches after.names.captured outer
+    → body_of body ≡ code (row_term_of term) (seen before outer) d (length before.procs))
+    → Coded s (state before) (state after) d (row_term_of term) (body_of body)
+coded_by before after d term body same adds at =
+    coded_in {a = state before} {b = state after} same (record { adds = adds; at = at })
 
 -- the same, with what is bound in front of it
 pub record Ended (s : Scope) (a b : State) (v : List Wait) (d : ℕ) (t : RowTerm) (body : Body) : Type 0 where
   pub adds : Adds s a b (free_names t) (procs_of t) (made t)
   pub at : (outer : Scope) → Reaches b.captured outer → body ≡ ahead v (code t (over s outer) d (length a.procs))
 
-pub ended_adds : (s : Scope) (a b : State) (v : List Wait) (d : ℕ) (t left : RowTerm) (body : Body) (W : State → Type 0)
-    → left ≡ t → Ended s a b v d t body
-    → ((end : State) → Adds s a end (free_names left) (procs_of left) (made left) → W end) → W b
-ended_adds s a b v d t left body W l p whole =
-    whole b (subst (λ x. Adds s a b (free_names x) (procs_of x) (made x)) (sym l) p.adds)
-
-pub ended_body : (s : Scope) (a b : State) (v : List Wait) (d : ℕ) (t left : RowTerm) (body : Body) (W : Scope → Body)
-    → left ≡ t → Ended s a b v d t body
-    → ((outer : Scope) → Reaches a.captured outer → ahead v (code left (over s outer) d (length a.procs)) ≡ W outer)
-    → (outer : Scope) → Reaches b.captured outer → body ≡ W outer
-ended_body s a b v d t left body W l p whole outer r =
-    p.at outer r ∙ sym (ap (λ x. ahead v (code x (over s outer) d (length a.procs))) l)
-    ∙ whole outer (grows s a b (free_names t) (procs_of t) (made t) p.adds outer r)
-
 -- ---- forms that end a body
 
-pub call_ends : (s : Scope) (a b c : State) (u v w : List Wait) (d e : ℕ) (f : RowTerm) (terms : RowTerms) (o : Operand)
-    (os : List Operand) (body : Body) → Placed s a b u v d e f o → Gathered s b c v w e terms [] os
+pub call_ends : {s : Scope} {a b c : State} {u v w : List Wait} {d e : ℕ} {f : RowTerm} {terms : RowTerms} {o : Operand}
+    {os : List Operand} {body : Body}
+    → Placed s a b u v d e f o → Gathered s b c v w e terms [] os
     → body ≡ ahead w (Call o os) → Ended s a c u d (RowCall f terms) body
-call_ends s a b c u v w d e f terms o os body p g end = record {
+call_ends {s = s} {a = a} {b = b} {c = c} {v = v} {e = e} {f = f} {terms = terms} {o = o} p g end = record {
   adds = adds_then s a b c (free_names f) (free_names_of_all terms) (procs_of f) (procs_for terms) (made f)
       (made_for terms) p.adds g.adds;
   at = λ outer r. end ∙ g.at outer r (o ∷ []) call_of
@@ -77,104 +97,102 @@ call_ends s a b c u v w d e f terms o os body p g end = record {
       (λ x later. gather terms (over s outer) later (length a.procs + made f) (x ∷ []) call_of);
 }
 
-pub if_ends : (s : Scope) (a b c e : State) (u v : List Wait) (d k : ℕ) (condition on_true on_false : RowTerm)
-    (o : Operand)
-    (one other body : Body) → Placed s a b u v d k condition o → Coded s b c k on_true one
+pub if_ends : {s : Scope} {a b c e : State} {u v : List Wait} {d k : ℕ} {condition on_true on_false : RowTerm}
+    {o : Operand} {one other body : Body}
+    → Placed s a b u v d k condition o → Coded s b c k on_true one
     → Coded s c e k on_false other
     → body ≡ ahead v (Choose o one other) → Ended s a e u d (RowIf condition on_true on_false) body
-if_ends s a b c e u v d k condition on_true on_false o one other body p q z end = record {
-  adds = adds_then s a b e (free_names condition) (free_names on_true ++ free_names on_false) (procs_of condition)
-      (λ n. procs_of on_true n ++ procs_of on_false (n + made on_true)) (made condition) (made on_true + made on_false)
-      p.adds both;
-  at = λ outer r.
-      let r2 : Reaches c.captured outer =
-      grows s c e (free_names on_false) (procs_of on_false) (made on_false) z.adds outer r in
-      let r1 : Reaches b.captured outer = grows s b c (free_names on_true) (procs_of on_true)
-      (made on_true) q.adds outer r2 in
-      let m : length c.procs ≡ length a.procs + made condition + made on_true =
-      q.adds.count ∙ ap (λ n. n + made on_true) p.adds.count in
-      end ∙ ap (λ x. ahead v (Choose o x other)) (q.at outer r2)
-      ∙ ap (λ x. ahead v (Choose o (code on_true (over s outer) k (length b.procs)) x)) (z.at outer r)
-      ∙ ap (λ n. ahead v (Choose o (code on_true (over s outer) k n) (code on_false (over s outer) k (length c.procs))))
-      p.adds.count
-      ∙ ap (λ n. ahead v (Choose o (code on_true (over s outer) k (length a.procs + made condition))
-      (code on_false (over s outer) k n))) m
-      ∙ p.at outer r1 (λ x later. Choose x (code on_true (over s outer) later (length a.procs + made condition))
-      (code on_false (over s outer) later (length a.procs + made condition + made on_true)));
-}
+if_ends {s = s} {a = a} {b = b} {c = c} {e = e} {v = v} {k = k} {condition = condition} {on_true = on_true}
+    {on_false = on_false} {o = o} {other = other} p q z end = record {
+      adds = adds_then s a b e (free_names condition) (free_names on_true ++ free_names on_false) (procs_of condition)
+          (λ n. procs_of on_true n ++ procs_of on_false (n + made on_true)) (made condition)
+          (made on_true + made on_false)
+          p.adds both;
+      at = λ outer r.
+          let r2 : Reaches c.captured outer =
+          grows s c e (free_names on_false) (procs_of on_false) (made on_false) z.adds outer r in
+          let r1 : Reaches b.captured outer = grows s b c (free_names on_true) (procs_of on_true)
+          (made on_true) q.adds outer r2 in
+          let m : length c.procs ≡ length a.procs + made condition + made on_true =
+          q.adds.count ∙ ap (λ n. n + made on_true) p.adds.count in
+          end ∙ ap (λ x. ahead v (Choose o x other)) (q.at outer r2)
+          ∙ ap (λ x. ahead v (Choose o (code on_true (over s outer) k (length b.procs)) x)) (z.at outer r)
+          ∙ ap (λ n. ahead v (Choose o (code on_true (over s outer) k n)
+          (code on_false (over s outer) k (length c.procs))))
+          p.adds.count
+          ∙ ap (λ n. ahead v (Choose o (code on_true (over s outer) k (length a.procs + made condition))
+          (code on_false (over s outer) k n))) m
+          ∙ p.at outer r1 (λ x later. Choose x (code on_true (over s outer) later (length a.procs + made condition))
+          (code on_false (over s outer) later (length a.procs + made condition + made on_true)));
+    }
   where
     both : Adds s b e (free_names on_true ++ free_names on_false)
         (λ n. procs_of on_true n ++ procs_of on_false (n + made on_true)) (made on_true + made on_false)
     both = adds_then s b c e (free_names on_true) (free_names on_false) (procs_of on_true) (procs_of on_false)
         (made on_true) (made on_false) q.adds z.adds
 
-pub cast_ends : (s : Scope) (a b : State) (u v : List Wait) (d e : ℕ) (t : RowTerm) (o : Operand) (number : ℕ)
-    (body : Body)
+pub cast_ends : {s : Scope} {a b : State} {u v : List Wait} {d e : ℕ} {t : RowTerm} {o : Operand} {number : ℕ}
+    {body : Body}
     → Placed s a b u v d e t o → body ≡ ahead v (Give (Cast o number)) → Ended s a b u d (RowCast t number) body
-cast_ends s a b u v d e t o number body p end = record {
+cast_ends {number = number} p end = record {
   adds = p.adds;
   at = λ outer r. end ∙ p.at outer r (λ x later. Give (Cast x number));
 }
 
-pub proj_ends : (s : Scope) (a b : State) (u v : List Wait) (d e : ℕ) (t : RowTerm) (o : Operand) (k : ℤ) (body : Body)
+pub proj_ends : {s : Scope} {a b : State} {u v : List Wait} {d e : ℕ} {t : RowTerm} {o : Operand} {k : ℤ} {body : Body}
     → Placed s a b u v d e t o → body ≡ ahead v (Give (Proj o k)) → Ended s a b u d (RowProj t k) body
-proj_ends s a b u v d e t o k body p end = record {
+proj_ends {k = k} p end = record {
   adds = p.adds;
   at = λ outer r. end ∙ p.at outer r (λ x later. Give (Proj x k));
 }
 
-pub proj_dyn_ends : (s : Scope) (a b : State) (u v : List Wait) (d e : ℕ) (t : RowTerm) (o : Operand) (k : ℤ)
-    (label : ℕ)
-    (body : Body) → Placed s a b u v d e t o → body ≡ ahead v (Give (ProjDyn o k (label_id label)))
+pub proj_dyn_ends : {s : Scope} {a b : State} {u v : List Wait} {d e : ℕ} {t : RowTerm} {o : Operand} {k : ℤ}
+    {label : ℕ} {body : Body}
+    → Placed s a b u v d e t o → body ≡ ahead v (Give (ProjDyn o k (label_id label)))
     → Ended s a b u d (RowProjDyn t k label) body
-proj_dyn_ends s a b u v d e t o k label body p end = record {
+proj_dyn_ends {k = k} {label = label} p end = record {
   adds = p.adds;
   at = λ outer r. end ∙ p.at outer r (λ x later. Give (ProjDyn x k (label_id label)));
 }
 
-pub tuple_ends : (s : Scope) (a b : State) (u v : List Wait) (d : ℕ) (parts : RowTerms) (os : List Operand)
-    (body : Body)
+pub tuple_ends : {s : Scope} {a b : State} {u v : List Wait} {d : ℕ} {parts : RowTerms} {os : List Operand}
+    {body : Body}
     → Gathered s a b u v d parts [] os → body ≡ ahead v (Give (Tuple os)) → Ended s a b u d (RowTuple parts) body
-tuple_ends s a b u v d parts os body g end = record {
+tuple_ends g end = record {
   adds = g.adds;
   at = λ outer r. end ∙ g.at outer r [] (λ xs. Give (Tuple xs));
 }
 
-pub prim_ends : (s : Scope) (a b : State) (u v : List Wait) (d : ℕ) (operator : PrimOp) (terms : RowTerms)
-    (os : List Operand) (body : Body) → Gathered s a b u v d terms [] os → body ≡ ahead v (Give (Prim operator os))
+pub prim_ends : {s : Scope} {a b : State} {u v : List Wait} {d : ℕ} {operator : PrimOp} {terms : RowTerms}
+    {os : List Operand} {body : Body}
+    → Gathered s a b u v d terms [] os → body ≡ ahead v (Give (Prim operator os))
     → Ended s a b u d (RowPrim operator terms) body
-prim_ends s a b u v d operator terms os body g end = record {
+prim_ends {operator = operator} g end = record {
   adds = g.adds;
   at = λ outer r. end ∙ g.at outer r [] (λ xs. Give (Prim operator xs));
 }
 
-pub seq_ends : (s : Scope) (a b : State) (v : List Wait) (d : ℕ) (terms : RowTerms) (body : Body)
-    → Adds s a b (free_names_of_all terms) (procs_for terms) (made_for terms)
-    → ((outer : Scope) → Reaches b.captured outer → body ≡ ahead v (sequence terms (over s outer) d (length a.procs)))
-    → Ended s a b v d (RowSeq terms) body
-seq_ends s a b v d terms body x at = record { adds = x; at = at }
-
-pub lambda_ends : (s : Scope) (a b : State) (v w : List Wait) (d : ℕ) (parameters : List ℕ) (term : RowTerm) (type : ℕ)
-    (body : Body)
+pub lambda_ends : {s : Scope} {a b : State} {v : List Wait} (w : List Wait) {d : ℕ} {parameters : List ℕ}
+    {term : RowTerm} {type : ℕ} {body : Body}
     → Adds s a b (names_besides parameters (free_names term)) (procs_of (RowLambda parameters term 0))
     (made term + 0 + 1)
     → ((outer : Scope) → Reaches b.captured outer → Puts v w (λ r. LetGroup d (length a.procs + (made term + 0)) 1
     (meanings_of (captures [] (alone parameters term 0)) (over s outer)) r))
     → body ≡ ahead w (Give (Move (Local d))) → Ended s a b v d (RowLambda parameters term type) body
-lambda_ends s a b v w d parameters term type body x p end = record {
+lambda_ends w {d = d} x p end = record {
   adds = x;
   at = λ outer r. end ∙ p outer r (Give (Move (Local d)));
 }
 
 -- ---- forms behind which a body goes on
 
-pub group_goes_on : (s inside : Scope) (a b : State) (left body : RowTerm) (members : RowMembers) (W : State → Type 0)
+pub group_goes_on : {s inside : Scope} {a b : State} {left body : RowTerm} {members : RowMembers} {W : State → Type 0}
     → left ≡ RowGroup members body → Hides (row_member_names members) inside s
     → Adds s a b (names_besides (row_member_names members) (free_names_of_members members)) (group_procs members)
     (made_in members + row_member_count members)
     → ((end : State) → Adds s a end (free_names left) (procs_of left) (made left) → W end)
     → (end : State) → Adds inside b end (free_names body) (procs_of body) (made body) → W end
-group_goes_on s inside a b left body members W l hide x whole end y =
+group_goes_on {s = s} {inside = inside} {a = a} {b = b} {body = body} {members = members} l hide x whole end y =
     whole end (subst (λ z. Adds s a end (free_names z) (procs_of z) (made z)) (sym l) all)
   where
     names : List ℕ
@@ -214,24 +232,25 @@ group_goes_on s inside a b left body members W l hide x whole end y =
         (captures (row_member_names members) members) (row_member_count members) 0 members n ++ procs_of body k))
         (number n)) refl joined
 
-pub let_goes_on : (s inside : Scope) (a b : State) (left body : RowTerm) (bindings : RowBindings) (W : State → Type 0)
+pub let_goes_on : {s inside : Scope} {a b : State} {left body : RowTerm} {bindings : RowBindings} {W : State → Type 0}
     → left ≡ RowLet bindings body → Hides (row_binding_names bindings) inside s
     → Adds s a b (free_names_of_bindings bindings) (procs_by bindings) (made_by bindings)
     → ((end : State) → Adds s a end (free_names left) (procs_of left) (made left) → W end)
     → (end : State) → Adds inside b end (free_names body) (procs_of body) (made body) → W end
-let_goes_on s inside a b left body bindings W l hide x whole end y =
+let_goes_on {s = s} {inside = inside} {a = a} {b = b} {body = body} {bindings = bindings} l hide x whole end y =
     whole end (subst (λ z. Adds s a end (free_names z) (procs_of z) (made z)) (sym l)
     (adds_then s a b end (free_names_of_bindings bindings) (names_besides (row_binding_names bindings)
     (free_names body))
     (procs_by bindings) (procs_of body) (made_by bindings) (made body) x
     (adds_outside (row_binding_names bindings) inside s b end (free_names body) (procs_of body) (made body) hide y)))
 
-pub body_goes_on : (s inside : Scope) (a b : State) (v w : List Wait) (d e : ℕ) (left whole_term body : RowTerm)
-    (names : List ℕ) (ps : ℕ → List Proc) (m : ℕ) (W : Scope → Body) → left ≡ whole_term → Adds s a b names ps m
+pub body_goes_on : {s : Scope} (inside : Scope) {a b : State} (v w : List Wait) (d e : ℕ) {left whole_term : RowTerm}
+    (body : RowTerm) {names : List ℕ} {ps : ℕ → List Proc} {m : ℕ} {W : Scope → Body}
+    → left ≡ whole_term → Adds s a b names ps m
     → ((outer : Scope) → Reaches b.captured outer → ahead w (code body (over inside outer) e (length b.procs))
     ≡ ahead v (code whole_term (over s outer) d (length a.procs)))
     → ((outer : Scope) → Reaches a.captured outer → ahead v (code left (over s outer) d (length a.procs)) ≡ W outer)
     → (outer : Scope) → Reaches b.captured outer → ahead w (code body (over inside outer) e (length b.procs)) ≡ W outer
-body_goes_on s inside a b v w d e left whole_term body names ps m W l x p whole outer r =
+body_goes_on {s = s} inside {a = a} {b = b} v w d e body {names = names} {ps = ps} {m = m} l x p whole outer r =
     p outer r ∙ sym (ap (λ z. ahead v (code z (over s outer) d (length a.procs))) l)
     ∙ whole outer (grows s a b names ps m x outer r)

@@ -1,7 +1,7 @@
 -- Terms whose integers have 64 bits, whose functions have at most six parameters, whose calls hand on at most six
 -- arguments, whose tuples have one to eight parts, whose operators have eight operands at most, and whose parts of Dyn
 -- have numbers and labels that are words.
-use Rattle.std.proofs.Common.{◌≡◌, ℕ, suc, ◌≤◌, true, length}
+use Rattle.std.proofs.Common.{◌≡◌, ℕ, ◌≤◌, true, length}
 use Rattle.std.specs.Int.{int_wrap, w64}
 use Rattle.std.specs.Ordering.{int_eq}
 use Rattle.coer_core.specs.Terms.{RowTerm, RowTerms, RowMembers, RowBindings, RowInt, RowBool, RowUnit, RowVar}

@@ -1,12 +1,11 @@
 -- Functions: their parameters are bound, and their bodies know them.
-use Rattle.std.proofs.Common.{◌≡◌, ℕ, suc, ◌+◌, List, [], ◌∷◌, ◌++◌, length, map, refl, sym, ap, ◌∙◌, append_assoc}
+use Rattle.std.proofs.Common.{◌≡◌, ℕ, ◌+◌, List, [], ◌∷◌, ◌++◌, length, refl, sym, ap, ◌∙◌, append_assoc}
 use Rattle.std.proofs.Common.{subst}
-use Rattle.flat_ir.specs.declared.code.Operand.{Operand}
 use Rattle.flat_ir.specs.declared.code.Operand.TheVariants.{Local}
 use Rattle.flat_ir.specs.Bodies.{Body, Proc}
 use Rattle.flat_ir.specs.Views.{body_of}
 use Rattle.coer_core.specs.Terms.{RowTerm, RowMembers, RowMemberThen}
-use Rattle.coer_core.specs.Counts.{names_besides, free_names, free_names_of_members, row_member_count}
+use Rattle.coer_core.specs.Counts.{names_besides, free_names, free_names_of_members}
 use Rattle.closure_convert.specs.declared.conversion.Function.{Function}
 use Rattle.closure_convert.specs.Conversion.{Scope, bind_operands, code, made, made_in, numbered, procs_in, procs_of}
 use Rattle.closure_convert.specs.Converting.{State, Adds, bodies, parts_of}
@@ -49,17 +48,19 @@ pub record Made (s : Scope) (a b : State) (parameters : List ℕ) (term : RowTer
   pub body : (outer : Scope) → Reaches b.captured outer
       → body_of f.body ≡ code term (with_parameters parameters (over s outer)) (length parameters) (length a.procs)
 
-pub made_same : (s z : Scope) (a b : State) (parameters : List ℕ) (term : RowTerm) (f : Function) → s ≡ z
+pub made_same : {s z : Scope} {a b : State} {parameters : List ℕ} {term : RowTerm} {f : Function}
+    → s ≡ z
     → Made s a b parameters term f → Made z a b parameters term f
-made_same s z a b parameters term f e m = subst (λ x. Made x a b parameters term f) e m
+made_same {a = a} {b = b} {parameters = parameters} {term = term} {f = f} e m = subst
+    (λ x. Made x a b parameters term f) e m
 
-pub functions_adds : (s : Scope) (a b : State) (name : ℕ) (parameters : List ℕ) (term : RowTerm) (type : ℕ)
-    (f : Function)
-    (left rest : RowMembers) (W : State → Type 0) → left ≡ RowMemberThen name parameters term type rest
+pub functions_adds : {s : Scope} {a b : State} {name : ℕ} {parameters : List ℕ} {term : RowTerm} {type : ℕ}
+    {f : Function} {left rest : RowMembers} {W : State → Type 0}
+    → left ≡ RowMemberThen name parameters term type rest
     → Made s a b parameters term f
     → ((end : State) → Adds s a end (free_names_of_members left) (procs_in left) (made_in left) → W end)
     → (end : State) → Adds s b end (free_names_of_members rest) (procs_in rest) (made_in rest) → W end
-functions_adds s a b name parameters term type f left rest W l p whole end x =
+functions_adds {s = s} {a = a} {b = b} {parameters = parameters} {term = term} {rest = rest} l p whole end x =
     whole end (subst (λ y. Adds s a end (free_names_of_members y) (procs_in y) (made_in y)) (sym l)
     (adds_then s a b end (names_besides parameters (free_names term)) (free_names_of_members rest) (procs_of term)
     (procs_in rest) (made term) (made_in rest) p.adds x))

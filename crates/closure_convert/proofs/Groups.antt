@@ -1,12 +1,12 @@
 -- Groups: the procedures of their functions, and what they capture.
-use Rattle.std.proofs.Common.{◌≡◌, ℕ, suc, ◌+◌, List, [], ◌∷◌, ◌++◌, length, map, refl, sym, ap, ◌∙◌, arith}
-use Rattle.std.proofs.Common.{append_assoc}
-use Rattle.flat_ir.specs.Bodies.{Body, LetGroup, Proc}
-use Rattle.flat_ir.specs.declared.code.Operand.TheVariants.{Local, Captured, Sibling}
+use Rattle.std.proofs.Common.{◌≡◌, ℕ, suc, ◌+◌, List, [], ◌∷◌, ◌++◌, length, refl, sym, ap, ◌∙◌, arith}
+use Rattle.std.proofs.Common.{append_assoc, append-nil}
+use Rattle.flat_ir.specs.Bodies.{Body, LetGroup}
+use Rattle.flat_ir.specs.declared.code.Operand.TheVariants.{Sibling}
 use Rattle.flat_ir.specs.declared.programs.FlatProc.{FlatProc}
 use Rattle.flat_ir.specs.Views.{body_of, procs_of as procs_in_memory}
 use Rattle.coer_core.specs.Terms.{RowTerm, RowMembers, NoRowMembers, RowMemberThen, RowLambda}
-use Rattle.coer_core.specs.Counts.{names_besides, each_once, free_names, free_names_of_members, row_member_names}
+use Rattle.coer_core.specs.Counts.{names_besides, free_names, free_names_of_members, row_member_names}
 use Rattle.coer_core.specs.Counts.{row_member_count}
 use Rattle.closure_convert.specs.declared.conversion.Function.{Function}
 use Rattle.closure_convert.specs.declared.waits.Wait.{Wait}
@@ -123,19 +123,15 @@ group_waits names members s outer a behind captured parts v w d many c p = λ r.
 
 -- ---- a function that stands alone
 
-pub append_none : {A : Type 0} (xs : List A) → xs ++ [] ≡ xs
-append_none [] = refl
-append_none (x ∷ xs) = ap (λ r. x ∷ r) (append_none xs)
-
 pub alone_converted : (parameters : List ℕ) (term : RowTerm) (inside : Scope) (a b : State) (f : Function)
     → inside ≡ nothing_known → a.captured ≡ [] → Made inside a b parameters term f
     → Converted [] (alone parameters term 0) a.procs b.procs b.captured (parts_of (f ∷ []))
 alone_converted parameters term inside a b f e n m =
-    let x = made_same inside nothing_known a b parameters term f e m in record {
+    let x = made_same e m in record {
       adds = adds_same nothing_known (record { captured = []; procs = a.procs }) b
           (names_besides parameters (free_names term)) (names_besides parameters (free_names term) ++ [])
           (procs_of term) (λ k. procs_of term k ++ []) (made term) (made term + 0)
-          (sym (append_none (names_besides parameters (free_names term)))) (λ k. sym (append_none (procs_of term k)))
+          (sym (append-nil (names_besides parameters (free_names term)))) (λ k. sym (append-nil (procs_of term k)))
           (omega arith) (adds_between nothing_known nothing_known a b (record { captured = []; procs = a.procs }) b
           (names_besides parameters (free_names term)) (procs_of term) (made term) refl (sym n) refl refl refl x.adds);
       bodies = λ outer r. ap (λ k. (k, body_of f.body) ∷ []) x.params
@@ -154,5 +150,5 @@ alone_adds parameters term s a b x =
     (names_besides parameters (free_names term)) (λ n. (procs_of term n ++ []) ++ own n)
     (procs_of (RowLambda parameters term 0)) (made term + 0 + 1) (made term + 0 + 1)
     (besides_none (names_besides parameters (free_names term) ++ [])
-    ∙ append_none (names_besides parameters (free_names term)))
-    (λ n. ap (λ r. r ++ own n) (append_none (procs_of term n))) refl x
+    ∙ append-nil (names_besides parameters (free_names term)))
+    (λ n. ap (λ r. r ++ own n) (append-nil (procs_of term n))) refl x

@@ -13,7 +13,6 @@ use Rattle.grift_base.specs.declared.places.Pos.{Pos}
 use Rattle.grift_base.specs.declared.verdicts.Verdict.TheVariants.{Trap as TrapVerdict}
 use Rattle.grift_base.specs.declared.operators.PrimOp.{PrimOp}
 use Rattle.grift_base.specs.declared.operators.PrimOp.TheVariants.{MakeBox, MakeVector}
-use Rattle.core_calc.specs.Substitution.{is_among}
 use Rattle.core_calc.specs.Calculus.{CalcEnd, Blamed, Trapped, NoStep, blame_at}
 use Rattle.cast_modes.specs.Modes.{Mode, Decision, Keeping, Wrapping, Rewrapping, Unwrapping, Injecting, Opening}
 use Rattle.cast_modes.specs.Modes.{Making, Blaming, NoCast, DynPart, PartCast, NoPart, NoType}
@@ -39,7 +38,7 @@ use Rattle.coer_core.specs.Counts.{names_besides, free_names, free_names_of_all,
 use Rattle.coer_core.specs.Counts.{free_names_of_bindings, each_once, row_member_names, row_binding_names}
 use Rattle.coer_core.specs.Counts.{row_member_count, group_captures, lambda_captures, turn_words}
 use Rattle.coer_core.specs.Counts.{turn_wraps, eval_words}
-use Rattle.core_calc.specs.Account.{StepKind, Makes, Acts}
+use Rattle.core_calc.specs.Account.{StepKind, Makes, MakesVector, Acts}
 use Rattle.coer_core.specs.Tally.{made_vector, operating_kind, gather_kind, bind_kind, plain_kind, enter_kind}
 use Rattle.coer_core.specs.Tally.{turn_kind, function_words, made_words}
 use Rattle.coer_core.specs.Machine.{CoerPending}
@@ -67,19 +66,20 @@ use Rattle.closure_convert.proofs.Carrying.{group_of, fun_of, Stands, StandsFor}
 use Rattle.closure_convert.proofs.Carrying.{GroupStands}
 use Rattle.closure_convert.proofs.Carrying.{Carries, Fits, CarriesAll, carries_append}
 use Rattle.closure_convert.proofs.Carrying.{fits_found, fits_extend, Below, ScopeBelow}
-use Rattle.closure_convert.proofs.Carrying.{all_below_more, all_below_append, bound_below, SameBelow}
+use Rattle.closure_convert.proofs.Carrying.{each_append, each_bound, all_below_more, SameBelow}
 use Rattle.closure_convert.proofs.Carrying.{set_same, set_here, Covers, covers_left, covers_right, covers_bound}
 use Rattle.closure_convert.proofs.Carrying.{numbered_long, locals_below, group_same, group_slot}
 use Rattle.closure_convert.proofs.Carrying.{members_held}
 use Rattle.closure_convert.proofs.Carrying.{members_firsts, members_seconds, members_carry, group_captured}
 use Rattle.closure_convert.proofs.Relation.{finish_code, finish_of, values_of, Knows}
-use Rattle.closure_convert.proofs.Relation.{Gathers, Binds, Taken, FrameOn, Wait, Cells}
-use Rattle.closure_convert.proofs.Relation.{InCode, Pends}
+use Rattle.closure_convert.proofs.Relation.{ToTuple, ToPrim, Gathers, no_operands, Binds, Taken, FrameOn, Wait, Cells}
+use Rattle.closure_convert.proofs.Relation.{in_code, Pends}
 use Rattle.closure_convert.proofs.Relation.{AsOperand, FocusOn, knows_later}
 use Rattle.closure_convert.proofs.Relation.{carried_later}
 use Rattle.closure_convert.proofs.Agreeing.{int_carried, bool_carried, same_shape, as_long}
 use Rattle.closure_convert.proofs.Agreeing.{list_parts, onto_carried, Agree, a_gives, a_cast, a_proj}
 use Rattle.closure_convert.proofs.Agreeing.{a_proj_dyn, a_operate}
+use Rattle.closure_convert.proofs.Meeting.{besides_append}
 use Rattle.closure_convert.proofs.Calling.{pends_all, a_enter}
 
 -- ---- a measure that falls where the procedures make no step
@@ -223,6 +223,42 @@ onto_long : {A : Type 0} (done rest : List A) → length (onto done rest) ≡ le
 onto_long [] rest = omega arith
 onto_long (a ∷ done) rest = let e = onto_long done (a ∷ rest) in omega (arith, e)
 
+-- how many cells a vector is asked for with, where the value is a number
+abbrev cells_asked : {C K : Type 0} → RunValue C K → Option ℕ
+cells_asked (RunInt (pos n)) = Some n
+cells_asked u = None
+
+same_number : (C : Type 0) (n : ℤ)
+    → cells_asked {C = C} {K = FlatCode} (RunInt n) ≡ cells_asked {C = C} {K = Code} (RunInt n)
+same_number C (pos n) = refl
+same_number C (negsuc n) = refl
+
+abbrev cells_words : Option ℕ → ℕ
+cells_words None = 0
+cells_words (Some n) = 1 + n
+
+abbrev cells_kind : Option ℕ → StepKind
+cells_kind None = Acts
+cells_kind (Some n) = MakesVector n
+
+words_of_cells : {C K : Type 0} (u x : RunValue C K)
+    → operator_words MakeVector (u ∷ x ∷ []) ≡ cells_words (cells_asked u)
+words_of_cells (RunInt (pos n)) x = refl
+words_of_cells (RunInt (negsuc n)) x = refl
+words_of_cells u x = refl
+
+kind_of_cells : {C : Type 0} (v : CoerValue C) (vs : List (CoerValue C)) → made_vector (v ∷ vs) ≡ cells_kind
+    (cells_asked v)
+kind_of_cells (RunInt (pos n)) vs = refl
+kind_of_cells (RunInt (negsuc n)) vs = refl
+kind_of_cells v vs = refl
+
+flat_kind_of_cells : {C : Type 0} (u : FlatValue C) (us : List (FlatValue C))
+    → flat_vector (u ∷ us) ≡ cells_kind (cells_asked u)
+flat_kind_of_cells (RunInt (pos n)) us = refl
+flat_kind_of_cells (RunInt (negsuc n)) us = refl
+flat_kind_of_cells u us = refl
+
 module _ {C : Type 0} where
   -- the words of what is done with the values of some terms, the last value first
   abbrev job_words : Job C → List (CoerValue C) → ℕ
@@ -259,24 +295,20 @@ module _ {C : Type 0} where
   vector_more u x y us = refl
 
   module _ (procs : List Proc) where
-    int_words : (n : ℤ) (w : CoerValue C) (x : FlatValue C)
-        → operator_words {C = C} {K = FlatCode} MakeVector (RunInt n ∷ x ∷ [])
-        ≡ operator_words {C = C} {K = Code} MakeVector (RunInt n ∷ w ∷ [])
-    int_words (pos n) w x = refl
-    int_words (negsuc n) w x = refl
+    same_cells : (v : CoerValue C) (u : FlatValue C) → Carries procs v u → cells_asked u ≡ cells_asked v
+    same_cells (RunInt n) u c = ap cells_asked (int_carried procs n u c) ∙ same_number C n
+    same_cells (RunBool b) (RunBool d) c = refl
+    same_cells RunUnit RunUnit c = refl
+    same_cells (RunFun code vs) (RunFun other us) c = refl
+    same_cells (RunTuple vs) (RunTuple us) c = refl
+    same_cells (RunLoc place is_vector) (RunLoc other its) c = refl
+    same_cells (RunWrap v cast) (RunWrap u other) c = refl
+    same_cells (RunInject v kept) (RunInject u other) c = refl
+    same_cells v u c = absurd c
 
     vector_words : (v : CoerValue C) (u : FlatValue C) (w : CoerValue C) (x : FlatValue C) → Carries procs v u
         → operator_words MakeVector (u ∷ x ∷ []) ≡ operator_words MakeVector (v ∷ w ∷ [])
-    vector_words (RunInt n) u w x c =
-        ap (λ z. operator_words MakeVector (z ∷ x ∷ [])) (int_carried procs n u c) ∙ int_words n w x
-    vector_words (RunBool b) (RunBool d) w x c = refl
-    vector_words RunUnit RunUnit w x c = refl
-    vector_words (RunFun code vs) (RunFun other us) w x c = refl
-    vector_words (RunTuple vs) (RunTuple us) w x c = refl
-    vector_words (RunLoc place is_vector) (RunLoc other its) w x c = refl
-    vector_words (RunWrap v cast) (RunWrap u other) w x c = refl
-    vector_words (RunInject v kept) (RunInject u other) w x c = refl
-    vector_words v u w x c = absurd c
+    vector_words v u w x c = words_of_cells u x ∙ (ap cells_words (same_cells v u c) ∙ sym (words_of_cells v w))
 
     box_same : (vs : List (CoerValue C)) (us : List (FlatValue C)) → length vs ≡ length us
         → operator_words MakeBox us ≡ operator_words MakeBox vs
@@ -310,17 +342,6 @@ module _ {C : Type 0} where
 besides_none : (xs : List ℕ) → names_besides [] xs ≡ xs
 besides_none [] = refl
 besides_none (x ∷ xs) = ap (λ l. x ∷ l) (besides_none xs)
-
-besides_append : (names xs ys : List ℕ) → names_besides names (xs ++ ys) ≡ names_besides names xs ++ names_besides names
-    ys
-besides_append names [] ys = refl
-besides_append names (x ∷ xs) ys = by_test (is_among x names) (besides_append names xs ys)
-  where
-    by_test : (b : Bool) → names_besides names (xs ++ ys) ≡ names_besides names xs ++ names_besides names ys
-        → cond b (names_besides names (xs ++ ys)) (x ∷ names_besides names (xs ++ ys))
-        ≡ cond b (names_besides names xs) (x ∷ names_besides names xs) ++ names_besides names ys
-    by_test true ih = ih
-    by_test false ih = ap (λ l. x ∷ l) ih
 
 alone_free : (parameters : List ℕ) (body : RowTerm) (type : ℕ)
     → names_besides [] (free_names_of_members (alone parameters body type)) ≡ names_besides parameters (free_names body)
@@ -501,22 +522,10 @@ module _ {C : Type 0} where
   tuple_same (o ∷ os) (v ∷ done) e = omega (arith, e)
 
   module _ (procs : List Proc) where
-    int_kind : (n : ℤ) (vs : List (CoerValue C)) (us : List (FlatValue C))
-        → flat_vector (RunInt n ∷ us) ≡ made_vector (RunInt n ∷ vs)
-    int_kind (pos n) vs us = refl
-    int_kind (negsuc n) vs us = refl
-
     vector_kind : (v : CoerValue C) (u : FlatValue C) (vs : List (CoerValue C)) (us : List (FlatValue C))
         → Carries procs v u → flat_vector (u ∷ us) ≡ made_vector (v ∷ vs)
-    vector_kind (RunInt n) u vs us c = ap (λ z. flat_vector (z ∷ us)) (int_carried procs n u c) ∙ int_kind n vs us
-    vector_kind (RunBool b) (RunBool d) vs us c = refl
-    vector_kind RunUnit RunUnit vs us c = refl
-    vector_kind (RunFun code ws) (RunFun other xs) vs us c = refl
-    vector_kind (RunTuple ws) (RunTuple xs) vs us c = refl
-    vector_kind (RunLoc place is_vector) (RunLoc other its) vs us c = refl
-    vector_kind (RunWrap v cast) (RunWrap u other) vs us c = refl
-    vector_kind (RunInject v kept) (RunInject u other) vs us c = refl
-    vector_kind v u vs us c = absurd c
+    vector_kind v u vs us c =
+        flat_kind_of_cells u us ∙ (ap cells_kind (same_cells procs v u c) ∙ sym (kind_of_cells v vs))
 
     -- an operator is of the same kind
     kind_same : (op : PrimOp) (vs : List (CoerValue C)) (us : List (FlatValue C)) → CarriesAll procs vs us
@@ -751,6 +760,37 @@ module _ {C : Type 0} (procs : List Proc) (mode : Mode C) (told : Told) (prices 
       stays focus k g others x free less r atoms =
           inl (record { free = free; less = less; related = r; atoms = atoms })
 
+      -- the term goes on, with the same state of the procedures
+      stays_on : (focus : CoerFocus C) (k : List (CoerFrame C)) (focus1 : CoerFocus C) (k1 : List (CoerFrame C))
+          (g : FlatFocus C) (others : List (FlatFrame C)) → turn_wraps mode focus k ≡ 0
+          → size_of procs mode told (S focus1 k1) < size_of procs mode told (S focus k)
+          → (on : FocusOn procs mode focus1 k1 g others)
+          → left_on procs mode told focus1 k1 g others on ≤ (cost focus k).acts + p
+          → Sim focus k g others (On focus1 k1 store world)
+      stays_on focus k focus1 k1 g others free less on atoms =
+          stays focus k g others (On focus1 k1 store world) free less
+          (inl (record { ended = refl; other = refl; on = on; cells = held; world = refl })) atoms
+
+      steps : (focus : CoerFocus C) (k : List (CoerFrame C)) (g : FlatFocus C) (others : List (FlatFrame C))
+          (x : CoerAfter C) (y : FlatAfter C) → answer_at procs told g others ≡ None
+          → flat_turn procs mode cells world g others ≡ y → length others ≤ length k
+          → flat_turn_words procs mode g others ≤ turn_words mode focus k
+          → flat_turn_wraps procs mode g others ≡ turn_wraps mode focus k
+          → Pays (flat_cost procs mode prices g others) (cost focus k)
+          → (r : Pair procs mode told (after_turn (S focus k) x) (after_flat procs told (T g others) y))
+          → flat_atoms g + left procs mode told r ≤ (cost focus k).acts + p → Sim focus k g others x
+      steps focus k g others x y none e fr asked wraps pays r atoms = inr (inl (record {
+        y = y;
+        none = none;
+        turn = e;
+        frames = fr;
+        words = asked;
+        wraps = wraps;
+        pays = pays;
+        related = r;
+        atoms = atoms;
+      }))
+
       lost : (focus : CoerFocus C) (k : List (CoerFrame C)) (g : FlatFocus C) (others : List (FlatFrame C))
           → ended_at focus k ≡ None → length others ≤ length k → turn_wraps mode focus k ≡ 0
           → Sim focus k g others NoNext
@@ -768,17 +808,9 @@ module _ {C : Type 0} (procs : List Proc) (mode : Mode C) (told : Told) (prices 
           → flat_atoms g + begins x ≤ (cost focus k).acts + p → Sim focus k g others x
       concludes focus k g others (On (Own (Eval term env)) k1 store1 world1) (On g1 others1 cells1 world2) live none e
           fr asked wraps costs a pays few =
-          inr (inl (record {
-            y = On g1 others1 cells1 world2;
-            none = none;
-            turn = e;
-            frames = fr;
-            words = asked;
-            wraps = wraps;
-            pays = pays;
-            related = inl (record { ended = refl; other = refl; on = a.0; cells = a.1; world = sym a.2 });
-            atoms = at_most a.0;
-          }))
+          steps focus k g others (On (Own (Eval term env)) k1 store1 world1) (On g1 others1 cells1 world2) none e fr
+          asked wraps pays
+          (inl (record { ended = refl; other = refl; on = a.0; cells = a.1; world = sym a.2 })) (at_most a.0)
         where
           at_most : (on : FocusOn procs mode (Own (Eval term env)) k1 g1 others1)
               → flat_atoms g + left_on procs mode told (Own (Eval term env)) k1 g1 others1 on ≤ (cost focus k).acts + p
@@ -786,68 +818,34 @@ module _ {C : Type 0} (procs : List Proc) (mode : Mode C) (told : Told) (prices 
           at_most (inr h) = omega (arith, few)
       concludes focus k g others (On (Return v) k1 store1 world1) (On g1 others1 cells1 world2) live none e fr asked
           wraps costs a pays few =
-          inr (inl (record {
-            y = On g1 others1 cells1 world2;
-            none = none;
-            turn = e;
-            frames = fr;
-            words = asked;
-            wraps = wraps;
-            pays = pays;
-            related = inl (record { ended = refl; other = refl; on = a.0; cells = a.1; world = sym a.2 });
-            atoms = few;
-          }))
+          steps focus k g others (On (Return v) k1 store1 world1) (On g1 others1 cells1 world2) none e fr asked wraps
+          pays
+          (inl (record { ended = refl; other = refl; on = a.0; cells = a.1; world = sym a.2 })) few
       concludes focus k g others (On (Entering f done todo) k1 store1 world1) (On g1 others1 cells1 world2) live none e
           fr asked wraps costs a pays few =
-          inr (inl (record {
-            y = On g1 others1 cells1 world2;
-            none = none;
-            turn = e;
-            frames = fr;
-            words = asked;
-            wraps = wraps;
-            pays = pays;
-            related = inl (record { ended = refl; other = refl; on = a.0; cells = a.1; world = sym a.2 });
-            atoms = few;
-          }))
+          steps focus k g others (On (Entering f done todo) k1 store1 world1) (On g1 others1 cells1 world2) none e fr
+          asked wraps pays
+          (inl (record { ended = refl; other = refl; on = a.0; cells = a.1; world = sym a.2 })) few
       concludes focus k g others (BlameOf label) (BlameOf other) live none e fr asked wraps costs a pays few =
-          inr (inl (record {
-            y = BlameOf other;
-            none = none;
-            turn = e;
+          steps focus k g others (BlameOf label) (BlameOf other) none e fr asked wraps pays
+          (inr (inl (record {
+            e = Blamed label;
+            ended = refl;
+            other = ap (λ n. Some (blame_ending (slice_get told.labels n))) (sym a)
+                ∙ ap Some (sym (blame_same (slice_get told.labels label)));
+            output = refl;
             frames = fr;
-            words = asked;
-            wraps = wraps;
-            pays = pays;
-            related = inr (inl (record {
-              e = Blamed label;
-              ended = refl;
-              other = ap (λ n. Some (blame_ending (slice_get told.labels n))) (sym a)
-                  ∙ ap Some (sym (blame_same (slice_get told.labels label)));
-              output = refl;
-              frames = fr;
-            }));
-            atoms = few;
-          }))
+          }))) few
       concludes focus k g others (TrapOf trap world1) (TrapOf other world2) live none e fr asked wraps costs a pays
           few =
-          inr (inl (record {
-            y = TrapOf other world2;
-            none = none;
-            turn = e;
+          steps focus k g others (TrapOf trap world1) (TrapOf other world2) none e fr asked wraps pays
+          (inr (inl (record {
+            e = Trapped trap;
+            ended = refl;
+            other = ap (λ x. Some (EndsWith (TrapVerdict x))) (sym a.0);
+            output = ap (λ x. x.output) (sym a.1);
             frames = fr;
-            words = asked;
-            wraps = wraps;
-            pays = pays;
-            related = inr (inl (record {
-              e = Trapped trap;
-              ended = refl;
-              other = ap (λ x. Some (EndsWith (TrapVerdict x))) (sym a.0);
-              output = ap (λ x. x.output) (sym a.1);
-              frames = fr;
-            }));
-            atoms = few;
-          }))
+          }))) few
       concludes focus k g others NoNext y live none e fr asked wraps costs a pays few =
           lost focus k g others live fr costs
       concludes focus k g others x y live none e fr asked wraps costs a pays few = absurd a
@@ -866,40 +864,24 @@ module _ {C : Type 0} (procs : List Proc) (mode : Mode C) (told : Told) (prices 
       operand_next focus k0 term env frame k scope depth next l own rest others live calm fr less knows covers st waits
           taken (Some o) e =
           let z = size_live focus k0 live in
-          stays focus k0 (Own (Inside (rest o depth) l own)) others (On (Own (Eval term env))
-          (frame ∷ k) store world) calm (omega (arith, z, less)) (inl (record {
-            ended = refl;
-            other = refl;
-            on = inr (
-              record {
-                scope = scope;
-                l = l;
-                own = own;
-                operand = o;
-                is_atom = e;
-                fits = knows.fits;
-                taken = λ v c. taken o depth l (le_refl depth) (λ i lt. refl) (atom_below depth term scope o knows.below
-                    e) v c;
-              },
-              waits,
-            );
-            cells = held;
-            world = refl;
-          })) (none_asked _)
+          stays_on focus k0 (Own (Eval term env)) (frame ∷ k) (Own (Inside (rest o depth) l own)) others calm (omega
+          (arith, z, less)) (inr (
+            record {
+              scope = scope;
+              l = l;
+              own = own;
+              operand = o;
+              is_atom = e;
+              fits = knows.fits;
+              taken = λ v c. taken o depth l (le_refl depth) (λ i lt. refl) (atom_below depth term scope o knows.below
+                  e) v c;
+            },
+            waits,
+          )) (none_asked _)
       operand_next focus k0 term env frame k scope depth next l own rest others live calm fr less knows covers st waits
           taken None e =
           let body = rest (Local depth) (suc depth) in
-          let inside : InCode procs mode term env (Own (Inside (code term scope depth next) l own)) = record {
-            scope = scope;
-            depth = depth;
-            next = next;
-            l = l;
-            own = own;
-            runs = refl;
-            knows = knows;
-            covers = covers;
-            stands = st;
-          } in
+          let inside = in_code procs mode term env scope depth next l own knows covers st in
           let waiting : FrameOn procs mode frame (OwnFrame (Waiting depth body l own)) = λ v u c. taken (Local depth)
           (suc depth) (set_local l depth u) (omega arith) (set_same depth l u) (omega arith) v (subst
           (Carries procs v) (sym (set_here depth l u)) c) in
@@ -992,7 +974,8 @@ module _ {C : Type 0} (procs : List Proc) (mode : Mode C) (told : Told) (prices 
                 (values_more job done v)) (carries_append procs (values_of job done) (v ∷ []) l1 h.own h.os (o ∷ [])
                 (carried_later procs mode (values_of job done) h.os h.depth h.l l1 h.own same h.below h.carries)
                 (c, tt));
-            below = all_below_append later h.os (o ∷ []) (all_below_more h.depth later h.os more h.below) (below, tt);
+            below = each_append (Below later) h.os (o ∷ []) (all_below_more h.depth later h.os more h.below)
+                (below, tt);
             covers = covers_right (free_names term) (free_names_of_all rest) h.scope h.covers;
             stands = h.stands.1;
           }) (atom term h.scope) refl
@@ -1026,30 +1009,14 @@ module _ {C : Type 0} (procs : List Proc) (mode : Mode C) (told : Told) (prices 
           let same : names ≡ firsts entries = append-nil (firsts entries) in
           let long : length names ≡ length h.os = ap length same ∙ (firsts_long entries
           ∙ (as_long procs (seconds entries) (values h.l h.own h.os) h.carries ∙ values_long h.l h.own h.os)) in
-          let inside : InCode procs mode body (entries ++ env) (Own (Inside (code body scope1 h.depth h.after) h.l
-          h.own)) = record {
-            scope = scope1;
-            depth = h.depth;
-            next = h.after;
-            l = h.l;
-            own = h.own;
-            runs = refl;
-            knows = record {
-              fits = subst (λ n. Fits procs (entries ++ env) (means (bind_operands n h.os h.scope) h.l h.own))
-                  (sym same) (fits_extend procs entries h.os env h.scope h.l h.own h.carries h.knows.fits);
-              below = bound_below h.depth names h.os h.scope h.below h.knows.below;
-            };
-            covers = covers_bound (free_names body) names h.os h.scope long h.covers_body;
-            stands = h.stands_body;
-          } in
-          stays focus k0 (Own (Inside (code body scope1 h.depth h.after) h.l h.own)) others (On (Own (Eval body
-          (entries ++ env))) k store world) calm (omega (arith, z, le)) (inl (record {
-            ended = refl;
-            other = refl;
-            on = inl (inside, waits);
-            cells = held;
-            world = refl;
-          })) (let few = atom_few body in omega (arith, few, acts))
+          let inside = in_code procs mode body (entries ++ env) scope1 h.depth h.after h.l h.own (record {
+            fits = subst (λ n. Fits procs (entries ++ env) (means (bind_operands n h.os h.scope) h.l h.own)) (sym same)
+                (fits_extend procs entries h.os env h.scope h.l h.own h.carries h.knows.fits);
+            below = each_bound (Below h.depth) names h.os h.scope h.below h.knows.below;
+          }) (covers_bound (free_names body) names h.os h.scope long h.covers_body) h.stands_body in
+          stays_on focus k0 (Own (Eval body (entries ++ env))) k (Own (Inside (code body scope1 h.depth h.after) h.l
+          h.own)) others calm (omega (arith, z, le)) (inl (inside, waits))
+          (let few = atom_few body in omega (arith, few, acts))
       binds_on focus k0 bound (RowBindingThen name term rest) body env k g others live calm fr le acts h waits =
           let entries = onto bound [] in
           let names = firsts entries ++ (name ∷ row_binding_names rest) in
@@ -1079,7 +1046,8 @@ module _ {C : Type 0} (procs : List Proc) (mode : Mode C) (told : Told) (prices 
                 ∙ seconds_append entries ((name, v) ∷ []))) (carries_append procs (seconds entries)
                 (v ∷ []) l1 h.own h.os (o ∷ []) (carried_later procs mode (seconds entries) h.os h.depth h.l l1 h.own
                 same h.below h.carries) (c, tt));
-            below = all_below_append later h.os (o ∷ []) (all_below_more h.depth later h.os more h.below) (below, tt);
+            below = each_append (Below later) h.os (o ∷ []) (all_below_more h.depth later h.os more h.below)
+                (below, tt);
             covers = covers_right (free_names term) (free_names_of_bindings rest) h.scope h.covers;
             covers_body = subst (λ n. Covers (names_besides n (free_names body)) h.scope) same_names h.covers_body;
             stands = h.stands.1;
@@ -1099,6 +1067,14 @@ module _ {C : Type 0} (procs : List Proc) (mode : Mode C) (told : Told) (prices 
 
       -- ---- a value comes back
 
+      runs_code : (term : RowTerm) (env : Env C) (k : List (CoerFrame C)) (scope : Scope) (depth next : ℕ)
+          (l : Locals C) (own : Group C) (others : List (FlatFrame C)) → Knows procs mode env scope depth l own
+          → Covers (free_names term) scope → Stands procs term next → Wait procs mode k others
+          → Same (goes mode code_arity entered store world (Own (Eval term env)) k)
+          (On (Own (Inside (code term scope depth next) l own)) others cells world)
+      runs_code term env k scope depth next l own others knows covers st waits =
+          (inl (in_code procs mode term env scope depth next l own knows covers st, waits), held, refl)
+
       chooses : (a b : RowTerm) (v : CoerValue C) (u : FlatValue C) (env : Env C) (k : List (CoerFrame C))
           (scope : Scope) (depth next other : ℕ) (l : Locals C) (own : Group C) (others : List (FlatFrame C))
           → Knows procs mode env scope depth l own → Carries procs v u → Covers (free_names a ++ free_names b) scope
@@ -1108,45 +1084,15 @@ module _ {C : Type 0} (procs : List Proc) (mode : Mode C) (told : Told) (prices 
       chooses a b (RunBool true) u env k scope depth next other l own others knows c covers st st1 waits =
           subst (λ x. Same (goes mode code_arity entered store world (Own (Eval a env)) k)
           (flat_choose procs mode cells world x (code a scope depth next) (code b scope depth other) l own others))
-          (sym (bool_carried procs true u c)) (
-            inl (
-              record {
-                scope = scope;
-                depth = depth;
-                next = next;
-                l = l;
-                own = own;
-                runs = refl;
-                knows = knows;
-                covers = covers_left (free_names a) (free_names b) scope covers;
-                stands = st;
-              },
-              waits,
-            ),
-            held,
-            refl,
-          )
+          (sym (bool_carried procs true u c))
+          (runs_code a env k scope depth next l own others knows
+          (covers_left (free_names a) (free_names b) scope covers) st waits)
       chooses a b (RunBool false) u env k scope depth next other l own others knows c covers st st1 waits =
           subst (λ x. Same (goes mode code_arity entered store world (Own (Eval b env)) k)
           (flat_choose procs mode cells world x (code a scope depth next) (code b scope depth other) l own others))
-          (sym (bool_carried procs false u c)) (
-            inl (
-              record {
-                scope = scope;
-                depth = depth;
-                next = other;
-                l = l;
-                own = own;
-                runs = refl;
-                knows = knows;
-                covers = covers_right (free_names a) (free_names b) scope covers;
-                stands = st1;
-              },
-              waits,
-            ),
-            held,
-            refl,
-          )
+          (sym (bool_carried procs false u c))
+          (runs_code b env k scope depth other l own others knows
+          (covers_right (free_names a) (free_names b) scope covers) st1 waits)
       chooses a b v u env k scope depth next other l own others knows c covers st st1 waits = tt
 
       taken_does : (v : CoerValue C) (frame : CoerFrame C) (k : List (CoerFrame C)) (g : FlatFocus C) (others : List
@@ -1165,27 +1111,9 @@ module _ {C : Type 0} (procs : List Proc) (mode : Mode C) (told : Told) (prices 
           h.carries h.covers h.stands_a h.stands_b waits) (pays_same _ _ refl)
           (let few = begins_few x in let one = act Acts 0 0 in omega (arith, few, one)))
       taken_does v (OwnFrame (SeqFrame term rest env)) k g others h waits =
-          stays (Return v) (OwnFrame (SeqFrame term rest env) ∷ k) g others (On (Own (Eval (RowSeq
-          (RowTermThen term rest)) env)) k store world) refl (omega arith) (inl (record {
-            ended = refl;
-            other = refl;
-            on = inl (
-              record {
-                scope = h.scope;
-                depth = h.depth;
-                next = h.next;
-                l = h.l;
-                own = h.own;
-                runs = h.runs;
-                knows = h.knows;
-                covers = h.covers;
-                stands = h.stands;
-              },
-              waits,
-            );
-            cells = held;
-            world = refl;
-          })) (none_asked _)
+          stays_on (Return v) (OwnFrame (SeqFrame term rest env) ∷ k) (Own (Eval (RowSeq (RowTermThen term rest)) env))
+          k
+          g others refl (omega arith) (inl (h, waits)) (none_asked _)
       taken_does v (OwnFrame (FunFrame arguments env)) k g others h waits =
           gathers_does (Return v) (OwnFrame (FunFrame arguments env) ∷ k) (Calling v) [] arguments env k g others refl
           refl (fr1 procs mode (OwnFrame (FunFrame arguments env)) k others waits) (omega arith) (at_end arguments 0
@@ -1420,29 +1348,13 @@ module _ {C : Type 0} (procs : List Proc) (mode : Mode C) (told : Told) (prices 
           → SimF (Own (Eval (RowGroup members body) env)) k (Own (Inside (code (RowGroup members body) scope depth next)
           l own)) others (eval mode store world (RowGroup members body) env k)
       group_code NoRowMembers body env k scope depth next l own others knows covers st waits =
-          stays false p (Own (Eval (RowGroup NoRowMembers body) env)) k (Own (Inside (code body scope depth
-          (next + 0 + 0)) l own)) others (eval mode store world (RowGroup NoRowMembers body) env k) refl
-          (omega arith) (inl (record {
-            ended = refl;
-            other = refl;
-            on = inl (
-              record {
-                scope = scope;
-                depth = depth;
-                next = next + 0 + 0;
-                l = l;
-                own = own;
-                runs = refl;
-                knows =
-                    knows;
-                covers = subst (λ ns. Covers ns scope) (besides_none (free_names body)) covers;
-                stands = st.1;
-              },
-              waits,
-            );
-            cells = held;
-            world = refl;
-          })) (let few = atom_few body in let words = eval_words (RowGroup NoRowMembers body) in
+          stays_on false p (Own (Eval (RowGroup NoRowMembers body) env)) k (Own (Eval body env)) k (Own (Inside
+          (code body scope depth (next + 0 + 0)) l own)) others refl (omega arith) (inl (
+            in_code procs mode body env scope depth
+                (next + 0 + 0) l own knows (subst (λ ns. Covers ns scope) (besides_none (free_names body)) covers) st.1,
+            waits,
+          ))
+          (let few = atom_few body in let words = eval_words (RowGroup NoRowMembers body) in
           let one = act Makes words words in omega (arith, few, one))
       group_code (RowMemberThen name parameters inner type others_in) body env k scope depth next l own others knows
           covers st waits =
@@ -1470,26 +1382,16 @@ module _ {C : Type 0} (procs : List Proc) (mode : Mode C) (told : Told) (prices 
           let carried = members_carry procs first captured (seconds entries) names 0 depth count depth l own
           (omega arith) (omega arith) (members_seconds members own_names caught members 0) all in
           let after = next + made_in members + row_member_count members in
-          let inside : InCode procs mode body (entries ++ env) (Own (Inside (code body scope1
-          (depth + count) after) l1 own)) = record {
-            scope = scope1;
-            depth = depth + count;
-            next = after;
-            l = l1;
-            own = own;
-            runs = refl;
-            knows = record {
-              fits = subst (λ n. Fits procs (entries ++ env) (means (bind_operands n os scope) l1 own))
-                  (members_firsts members own_names caught members 0) (fits_extend procs entries os env scope l1 own
-                  carried kept.fits);
-              below = bound_below (depth + count) names os scope (locals_below names depth (depth + count)
-                  (omega arith)) kept.below;
-            };
-            covers = covers_bound (free_names body) names os scope (numbered_long (λ i. Local i) names depth)
-                (covers_right (names_besides names (free_names_of_members members)) (names_besides names
-                (free_names body)) scope both);
-            stands = st.1;
-          } in
+          let inside = in_code procs mode body (entries ++ env) scope1 (depth + count) after l1 own (record {
+            fits = subst (λ n. Fits procs (entries ++ env) (means (bind_operands n os scope) l1 own))
+                (members_firsts members own_names caught members 0) (fits_extend procs entries os env scope l1 own
+                carried kept.fits);
+            below = each_bound (Below (depth + count)) names os scope
+                (locals_below names depth (depth + count) (omega arith))
+                kept.below;
+          }) (covers_bound (free_names body) names os scope (numbered_long (λ i. Local i) names depth)
+          (covers_right (names_besides names (free_names_of_members members)) (names_besides names (free_names body))
+          scope both)) st.1 in
           let a : length (meanings_of caps scope) ≡ length (group_captures members) = meanings_long caps scope in
           let b = names_long members in
           let words = 2 * row_member_count members + length (group_captures members) in
@@ -1535,44 +1437,24 @@ module _ {C : Type 0} (procs : List Proc) (mode : Mode C) (told : Told) (prices 
           (RowSeq NoRowTerms) env)) k (Own (Inside (sequence NoRowTerms scope depth next) l own)) others refl
           (fr0 procs mode k others waits) refl
       seq_code (RowTermThen term NoRowTerms) env k scope depth next l own others knows covers st waits =
-          stays false p (Own (Eval (RowSeq (RowTermThen term NoRowTerms)) env)) k (Own (Inside (sequence
-          (RowTermThen term NoRowTerms) scope depth next) l own)) others (eval mode store world (RowSeq
-          (RowTermThen term NoRowTerms)) env k) refl (omega arith) (inl (record {
-            ended = refl;
-            other = refl;
-            on = inl (
-              record {
-                scope = scope;
-                depth = depth;
-                next = next;
-                l = l;
-                own = own;
-                runs = refl;
-                knows = knows;
-                covers = covers_left (free_names term) [] scope covers;
-                stands = st.0;
-              },
-              waits,
-            );
-            cells = held;
-            world = refl;
-          })) (let few = atom_few term in let one = act Acts 0 0 in omega (arith, few, one))
+          stays_on false p (Own (Eval (RowSeq (RowTermThen term NoRowTerms)) env)) k (Own (Eval term env)) k (Own
+          (Inside (sequence (RowTermThen term NoRowTerms) scope depth next) l own)) others refl (omega arith)
+          (inl (
+            in_code procs mode term env scope depth next l own knows
+                (covers_left (free_names term) [] scope covers) st.0,
+            waits,
+          ))
+          (let few = atom_few term in let one = act Acts 0 0 in omega (arith, few, one))
       seq_code (RowTermThen term (RowTermThen second rest)) env k scope depth next l own others knows covers st waits =
           operand_next false p (Own (Eval (RowSeq (RowTermThen term (RowTermThen second rest))) env)) k term env
           (OwnFrame (SeqFrame second rest env)) k scope depth next l own (λ o later. sequence
           (RowTermThen second rest) scope later (next + made term)) others refl refl (fr0 procs mode k others waits)
           (omega arith) knows (covers_left (free_names term) (free_names_of_all (RowTermThen second rest)) scope
-          covers) st.0 waits (λ o later l1 more same below v c. record {
-            scope = scope;
-            depth = later;
-            next = next + made term;
-            l = l1;
-            own = own;
-            runs = refl;
-            knows = knows_later procs mode env scope depth later l l1 own more same knows;
-            covers = covers_right (free_names term) (free_names_of_all (RowTermThen second rest)) scope covers;
-            stands = st.1;
-          }) (atom term scope) refl
+          covers) st.0 waits
+          (λ o later l1 more same below v c. in_code procs mode (RowSeq (RowTermThen second rest)) env scope later
+          (next + made term) l1 own (knows_later procs mode env scope depth later l l1 own more same knows)
+          (covers_right (free_names term) (free_names_of_all (RowTermThen second rest)) scope covers) st.1)
+          (atom term scope) refl
 
       eval_code : (term : RowTerm) (env : Env C) (k : List (CoerFrame C)) (scope : Scope) (depth next : ℕ)
           (l : Locals C) (own : Group C) (others : List (FlatFrame C)) → Knows procs mode env scope depth l own
@@ -1686,40 +1568,14 @@ module _ {C : Type 0} (procs : List Proc) (mode : Mode C) (told : Told) (prices 
       eval_code (RowTuple parts) env k scope depth next l own others knows covers st waits enough =
           gathers_does false p (Own (Eval (RowTuple parts) env)) k Tupling [] parts env k (Own (Inside (code
           (RowTuple parts) scope depth next) l own)) others refl refl (fr0 procs mode k others waits) (omega arith)
-          (at_end parts 0 0 (none_asked 0)) (first_pays mode prices Tupling parts) (record {
-            scope = scope;
-            depth = depth;
-            next = next;
-            os = [];
-            l = l;
-            own
-                = own;
-            runs = refl;
-            knows = knows;
-            carries = tt;
-            below = tt;
-            covers = covers;
-            stands = st;
-          }) waits
+          (at_end parts 0 0 (none_asked 0)) (first_pays mode prices Tupling parts)
+          (no_operands procs mode parts ToTuple env scope depth next l own knows covers st) waits
       eval_code (RowPrim op parts) env k scope depth next l own others knows covers st waits enough =
           gathers_does false p (Own (Eval (RowPrim op parts) env)) k (Operating op) [] parts env k (Own (Inside (code
           (RowPrim op parts) scope depth next) l own)) others refl refl (fr0 procs mode k others waits)
           (omega arith) (at_end parts (operator_words op []) 0 (operator_none C op))
-          (first_pays mode prices (Operating op) parts) (record {
-            scope = scope;
-            depth
-                = depth;
-            next = next;
-            os = [];
-            l = l;
-            own = own;
-            runs = refl;
-            knows = knows;
-            carries = tt;
-            below = tt;
-            covers = covers;
-            stands = st;
-          }) waits
+          (first_pays mode prices (Operating op) parts)
+          (no_operands procs mode parts (ToPrim op) env scope depth next l own knows covers st) waits
 
       -- ---- terms whose operand is known
 
@@ -1728,15 +1584,8 @@ module _ {C : Type 0} (procs : List Proc) (mode : Mode C) (told : Told) (prices 
           → Wait procs mode k others → SimF (Own (Eval term env)) (frame ∷ k) g others (gives mode code_arity entered
           store world v (frame ∷ k))
       atom_gives term env frame k g others v less h waits =
-          stays false p (Own (Eval term env)) (frame ∷ k) g others (gives mode code_arity entered store world v
-          (frame ∷ k)) refl (omega (arith, less)) (inl (record {
-            ended = refl;
-            other = refl;
-            on = inr
-                (h, waits);
-            cells = held;
-            world = refl;
-          })) (none_asked _)
+          stays_on false p (Own (Eval term env)) (frame ∷ k) (Return v) (frame ∷ k) g others refl (omega (arith, less))
+          (inr (h, waits)) (none_asked _)
 
       eval_operand : (term : RowTerm) (env : Env C) (frame : CoerFrame C) (k : List (CoerFrame C)) (g : FlatFocus C)
           (others : List (FlatFrame C)) → AsOperand procs mode term env frame g → Wait procs mode k others

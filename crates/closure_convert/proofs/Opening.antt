@@ -1,6 +1,6 @@
 -- Names that are bound on the way, and bindings that are undone.
 use Rattle.std.proofs.Common.{◌≡◌, ◌≤◌, ℕ, zero, suc, List, [], ◌∷◌, ◌++◌, length, take, drop, Some, refl, sym, ap}
-use Rattle.std.proofs.Common.{◌∙◌, arith, append_assoc}
+use Rattle.std.proofs.Common.{◌∙◌, arith, append_assoc, append-nil}
 use Rattle.flat_ir.specs.declared.code.Operand.{Operand}
 use Rattle.closure_convert.specs.declared.names.Meaning.{Meaning}
 use Rattle.closure_convert.specs.declared.names.Names.{Names}
@@ -8,10 +8,6 @@ use Rattle.closure_convert.specs.Conversion.{Scope}
 use Rattle.closure_convert.specs.Keeping.{Kept, Opened}
 use Rattle.closure_convert.specs.Scopes.{known, set_meaning, undone}
 use Rattle.closure_convert.proofs.Scoping.{undone_append, set_back}
-
-append_none : {A : Type 0} (xs : List A) → xs ++ [] ≡ xs
-append_none [] = refl
-append_none (x ∷ xs) = ap (λ r. x ∷ r) (append_none xs)
 
 take_first : {A : Type 0} (xs ys : List A) (n : ℕ) → n ≡ length xs → take n (xs ++ ys) ≡ xs
 take_first {A = A} xs ys n e = ap (λ k. take k (xs ++ ys)) e ∙ all xs
@@ -34,7 +30,7 @@ pub kept_then : (a b c : Names) → Kept a b → Kept b c → Kept a c
 kept_then a b c f g = record { scope = g.scope ∙ f.scope; log = g.log ∙ f.log }
 
 pub opened_none : (a : Names) → Opened a a
-opened_none a = record { added = []; log = sym (append_none a.before.items); back = refl }
+opened_none a = record { added = []; log = sym (append-nil a.before.items); back = refl }
 
 pub opened_then : (a b c : Names) → Opened a b → Opened b c → Opened a c
 opened_then a b c f g = record {

@@ -1,11 +1,10 @@
 -- Whole programs.
-use Rattle.std.proofs.Common.{◌≡◌, ℕ, Bool, true, false, cond, nat_eq, List, [], ◌∷◌, ◌++◌, length, map, refl, sym}
+use Rattle.std.proofs.Common.{◌≡◌, ℕ, true, false, nat_eq, List, [], ◌∷◌, ◌++◌, length, refl, sym}
 use Rattle.std.proofs.Common.{ap, ◌∙◌}
 use Rattle.std.proofs.Common.{subst, arith, ◌+◌}
 use Rattle.core_calc.specs.Substitution.{is_among}
 use Rattle.flat_ir.specs.declared.code.FlatBody.{FlatBody}
 use Rattle.flat_ir.specs.declared.programs.FlatProc.{FlatProc}
-use Rattle.flat_ir.specs.Bodies.{Proc}
 use Rattle.flat_ir.specs.Views.{body_of, proc_of, procs_of as procs_in_memory}
 use Rattle.coer_core.specs.Counts.{free_names}
 use Rattle.coer_core.specs.Terms.{RowTerm}

@@ -1,12 +1,12 @@
 -- Which state of the procedures goes with which state of the run with environments.
 use Rattle.std.proofs.Common.{◌≡◌, ◌⊎◌, ℕ, ◌≤◌, List, [], ◌∷◌, ◌++◌}
-use Rattle.std.proofs.Common.{Some, sym, ◌∙◌, subst}
+use Rattle.std.proofs.Common.{Some, refl, sym, ◌∙◌, subst}
 use Rattle.grift_base.specs.declared.operators.PrimOp.{PrimOp}
 use Rattle.cast_modes.specs.Modes.{Mode}
 use Rattle.cast_modes.specs.RunValues.{Pending}
 use Rattle.cast_modes.specs.ValueSteps.{CastFrame, ProjFrame, PrimFrame, EnterFrame, OwnFrame, Own, Return, Entering}
 use Rattle.cast_modes.specs.ValueSteps.{onto}
-use Rattle.coer_core.specs.Terms.{RowTerm, RowTerms, RowBindings, RowTermThen}
+use Rattle.coer_core.specs.Terms.{RowTerm, RowTerms, RowBindings, RowSeq, RowTermThen}
 use Rattle.coer_core.specs.Counts.{names_besides, free_names, free_names_of_all, free_names_of_bindings}
 use Rattle.coer_core.specs.Counts.{row_binding_names}
 use Rattle.coer_core.specs.Machine.{Env, CoerValue, CoerPending, CoerFrame, CoerFocus, CoerStore, Job, Calling, Tupling}
@@ -19,7 +19,7 @@ use Rattle.flat_ir.specs.Bodies.{Body, Give, Choose, Proc}
 use Rattle.flat_ir.specs.Machine.{FlatCode, FlatValue, FlatStore, FlatFrame, FlatFocus, Group, Locals, Inside, Waiting}
 use Rattle.flat_ir.specs.Machine.{set_local, value, values}
 use Rattle.closure_convert.specs.Conversion.{Scope, bind_operands, atom, call_of, label_id, code, gather}
-use Rattle.closure_convert.specs.Conversion.{gather_let, sequence}
+use Rattle.closure_convert.specs.Conversion.{gather_let}
 use Rattle.closure_convert.proofs.Carrying.{firsts, seconds, means, Stands, StandsFor, StandsBy, Carries, Fits}
 use Rattle.closure_convert.proofs.Carrying.{CarriesAll}
 use Rattle.closure_convert.proofs.Carrying.{AllBelow, ScopeBelow, Covers, SameBelow, fits_part, means_same}
@@ -69,6 +69,26 @@ module _ {C : Type 0} (procs : List Proc) (mode : Mode C) where
     pub covers : Covers (free_names_of_all terms) scope
     pub stands : StandsFor procs terms next
 
+  -- where none is there yet
+  pub no_operands : (terms : RowTerms) (finish : Finish) (env : Env C) (scope : Scope) (depth next : ℕ) (l : Locals C)
+      (own : Group C) → Knows env scope depth l own → Covers (free_names_of_all terms) scope
+      → StandsFor procs terms next
+      → Gathers terms [] finish env (Own (Inside (gather terms scope depth next [] (finish_code finish)) l own))
+  no_operands terms finish env scope depth next l own knows covers st = record {
+    scope = scope;
+    depth = depth;
+    next = next;
+    os = [];
+    l = l;
+    own = own;
+    runs = refl;
+    knows = knows;
+    carries = tt;
+    below = tt;
+    covers = covers;
+    stands = st;
+  }
+
   -- those of a let
   pub record Binds (entries : List (ℕ × CoerValue C)) (bindings : RowBindings) (body : RowTerm) (env : Env C)
       (focus : FlatFocus C) : Type 0 where
@@ -104,16 +124,32 @@ module _ {C : Type 0} (procs : List Proc) (mode : Mode C) where
     pub stands_a : Stands procs a next
     pub stands_b : Stands procs b other
 
-  pub record GoesOn (terms : RowTerms) (env : Env C) (focus : FlatFocus C) : Type 0 where
+  -- a term whose code is run
+  pub record InCode (term : RowTerm) (env : Env C) (focus : FlatFocus C) : Type 0 where
     pub scope : Scope
     pub depth : ℕ
     pub next : ℕ
     pub l : Locals C
     pub own : Group C
-    pub runs : focus ≡ Own (Inside (sequence terms scope depth next) l own)
+    pub runs : focus ≡ Own (Inside (code term scope depth next) l own)
     pub knows : Knows env scope depth l own
-    pub covers : Covers (free_names_of_all terms) scope
-    pub stands : StandsFor procs terms next
+    pub covers : Covers (free_names term) scope
+    pub stands : Stands procs term next
+
+  pub in_code : (term : RowTerm) (env : Env C) (scope : Scope) (depth next : ℕ) (l : Locals C) (own : Group C)
+      → Knows env scope depth l own → Covers (free_names term) scope → Stands procs term next
+      → InCode term env (Own (Inside (code term scope depth next) l own))
+  in_code term env scope depth next l own knows covers st = record {
+    scope = scope;
+    depth = depth;
+    next = next;
+    l = l;
+    own = own;
+    runs = refl;
+    knows = knows;
+    covers = covers;
+    stands = st;
+  }
 
   -- an operation of one operand
   pub record Acts (v : CoerValue C) (make : Operand → Operation) (focus : FlatFocus C) : Type 0 where
@@ -126,7 +162,7 @@ module _ {C : Type 0} (procs : List Proc) (mode : Mode C) where
   -- the value is where the code of what waits for it finds it
   abbrev pub Taken : CoerValue C → CoerFrame C → FlatFocus C → Type 0
   Taken v (OwnFrame (IfFrame a b env)) focus = Chooses a b v env focus
-  Taken v (OwnFrame (SeqFrame term rest env)) focus = GoesOn (RowTermThen term rest) env focus
+  Taken v (OwnFrame (SeqFrame term rest env)) focus = InCode (RowSeq (RowTermThen term rest)) env focus
   Taken v (OwnFrame (FunFrame arguments env)) focus = Gathers arguments (v ∷ []) ToCall env focus
   Taken v (CastFrame cast) focus = (n : ℕ) × (mode.row n ≡ Some cast) × Acts v (λ o. Cast o n) focus
   Taken v (ProjFrame i) focus = Acts v (λ o. Proj o i) focus
@@ -162,17 +198,6 @@ module _ {C : Type 0} (procs : List Proc) (mode : Mode C) where
   Cells [] [] = Unit {0}
   Cells (cell ∷ store) (other ∷ cells) = CarriesAll procs cell other × Cells store cells
   Cells store cells = ⊥
-
-  pub record InCode (term : RowTerm) (env : Env C) (focus : FlatFocus C) : Type 0 where
-    pub scope : Scope
-    pub depth : ℕ
-    pub next : ℕ
-    pub l : Locals C
-    pub own : Group C
-    pub runs : focus ≡ Own (Inside (code term scope depth next) l own)
-    pub knows : Knows env scope depth l own
-    pub covers : Covers (free_names term) scope
-    pub stands : Stands procs term next
 
   -- a term that takes no code, whose operand is where the code of what waits finds it
   pub record AsOperand (term : RowTerm) (env : Env C) (frame : CoerFrame C) (focus : FlatFocus C) : Type 0 where

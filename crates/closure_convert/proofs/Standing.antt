@@ -18,16 +18,17 @@ use Rattle.coer_core.specs.Terms.{RowTerm, RowTerms, RowMembers, RowBindings, Ro
 use Rattle.coer_core.specs.Terms.{RowLambda, RowGroup, RowLet, RowCall, RowIf, RowSeq, RowCast, RowProj, RowProjDyn}
 use Rattle.coer_core.specs.Terms.{RowTuple, RowPrim, NoRowTerms, RowTermThen, NoRowMembers, RowMemberThen}
 use Rattle.coer_core.specs.Terms.{NoRowBindings, RowBindingThen}
-use Rattle.coer_core.specs.Machine.{run_start}
+use Rattle.coer_core.specs.Machine.{Eval, run_start}
 use Rattle.coer_core.specs.Counts.{free_names, row_member_names, row_member_count, counting, run_in}
 use Rattle.flat_ir.specs.Bodies.{Body, Proc}
 use Rattle.flat_ir.specs.Machine.{FlatState, Inside, new_group, first_world, flat_state_at, entry_body}
 use Rattle.flat_ir.specs.Counts.{flat_counting, flat_run_in}
-use Rattle.closure_convert.specs.Conversion.{captures, alone, nothing_known, made, made_for, made_in, made_by}
+use Rattle.closure_convert.specs.Conversion.{captures, alone, nothing_known, made, made_for, made_in, made_by, code}
 use Rattle.closure_convert.specs.Conversion.{own_procs, procs_of, procs_for, procs_in, procs_by, entry_proc, converted}
 use Rattle.closure_convert.specs.Bounds.{CountsKept}
 use Rattle.closure_convert.proofs.ProcPlaces.{HasAt, has_front, has_back, whole}
 use Rattle.closure_convert.proofs.Carrying.{none_some, false_true, Stands, StandsFor, StandsIn, StandsBy}
+use Rattle.closure_convert.proofs.Relation.{FocusOn, in_code}
 use Rattle.closure_convert.proofs.Following.{M, N, Goes, simulation}
 
 pub own_long : (names captured : List ℕ) (group place : ℕ) (members : RowMembers) (next : ℕ)
@@ -35,6 +36,9 @@ pub own_long : (names captured : List ℕ) (group place : ℕ) (members : RowMem
 own_long names captured group place NoRowMembers next = refl
 own_long names captured group place (RowMemberThen name parameters body type rest) next = ap suc
     (own_long names captured group (suc place) rest (next + made body))
+
+long_append : (a b : List Proc) {m n : ℕ} → length a ≡ m → length b ≡ n → length (a ++ b) ≡ m + n
+long_append a b e f = omega (arith, length-append a b)
 
 mutual
   pub long : (term : RowTerm) (next : ℕ) → length (procs_of term next) ≡ made term
@@ -64,33 +68,15 @@ mutual
         long body after,
       )
   long (RowLet terms body) next =
-      omega (
-        arith,
-        length-append (procs_by terms next) (procs_of body (next + made_by terms)),
-        long_by terms next,
-        long
-            body (next + made_by terms),
-      )
+      long_append (procs_by terms next) (procs_of body (next + made_by terms)) (long_by terms next)
+      (long body (next + made_by terms))
   long (RowCall f terms) next =
-      omega (
-        arith,
-        length-append (procs_of f next) (procs_for terms (next + made f)),
-        long f next,
-        long_for terms
-            (next + made f),
-      )
+      long_append (procs_of f next) (procs_for terms (next + made f)) (long f next) (long_for terms (next + made f))
   long (RowIf c a b) next =
       let pa = procs_of a (next + made c) in
       let pb = procs_of b (next + made c + made a) in
-      omega (
-        arith,
-        length-append (procs_of c next) (pa ++ pb),
-        length-append pa pb,
-        long c next,
-        long a
-            (next + made c),
-        long b (next + made c + made a),
-      )
+      let two = long_append pa pb (long a (next + made c)) (long b (next + made c + made a)) in
+      omega (arith, long_append (procs_of c next) (pa ++ pb) (long c next) two)
   long (RowSeq terms) next = long_for terms next
   long (RowCast term n) next = long term next
   long (RowProj term i) next = long term next
@@ -101,41 +87,30 @@ mutual
   pub long_for : (terms : RowTerms) (next : ℕ) → length (procs_for terms next) ≡ made_for terms
   long_for NoRowTerms next = refl
   long_for (RowTermThen term rest) next =
-      omega (
-        arith,
-        length-append (procs_of term next) (procs_for rest (next + made term)),
-        long term next,
-        long_for
-            rest (next + made term),
-      )
+      long_append (procs_of term next) (procs_for rest (next + made term)) (long term next)
+      (long_for rest (next + made term))
 
   pub long_by : (bindings : RowBindings) (next : ℕ) → length (procs_by bindings next) ≡ made_by bindings
   long_by NoRowBindings next = refl
   long_by (RowBindingThen name term rest) next =
-      omega (
-        arith,
-        length-append (procs_of term next) (procs_by rest (next + made term)),
-        long term next,
-        long_by rest
-            (next + made term),
-      )
+      long_append (procs_of term next) (procs_by rest (next + made term)) (long term next)
+      (long_by rest (next + made term))
 
   pub long_in : (members : RowMembers) (next : ℕ) → length (procs_in members next) ≡ made_in members
   long_in NoRowMembers next = refl
   long_in (RowMemberThen name parameters body type rest) next =
-      omega (
-        arith,
-        length-append (procs_of body next) (procs_in rest (next + made body)),
-        long body next,
-        long_in rest
-            (next + made body),
-      )
+      long_append (procs_of body next) (procs_in rest (next + made body)) (long body next)
+      (long_in rest (next + made body))
 
 module _ (procs : List Proc) where
   -- what follows a part of this length
   back_at : (next made : ℕ) (a b : List Proc) → length a ≡ made → HasAt procs next (a ++ b)
       → HasAt procs (next + made) b
   back_at next made a b e h = subst (λ n. HasAt procs (next + n) b) e (has_back procs next a b h)
+
+  behind : (term : RowTerm) (next : ℕ) (b : List Proc) → HasAt procs next (procs_of term next ++ b)
+      → HasAt procs (next + made term) b
+  behind term next b h = back_at next (made term) (procs_of term next) b (long term next) h
 
   mutual
     pub stands : (term : RowTerm) (next : ℕ) → HasAt procs next (procs_of term next) → Stands procs term next
@@ -173,20 +148,19 @@ module _ (procs : List Proc) where
               (made_by terms) a b (long_by terms next) h),
         )
     stands (RowCall f terms) next h =
-        let a = procs_of f next in
         let b = procs_for terms (next + made f) in (
-          stands f next (has_front procs next a b h),
-          stands_for terms (next + made f) (back_at next (made f) a b
-              (long f next) h),
+          stands f next (has_front procs next (procs_of f next) b h),
+          stands_for terms (next + made f)
+              (behind f next b h),
         )
     stands (RowIf c a b) next h =
         let pc = procs_of c next in
         let pa = procs_of a (next + made c) in
         let pb = procs_of b (next + made c + made a) in
-        let rest = back_at next (made c) pc (pa ++ pb) (long c next) h in (
+        let rest = behind c next (pa ++ pb) h in (
           stands c next (has_front procs next pc (pa ++ pb) h),
           stands a (next + made c) (has_front procs (next + made c) pa pb rest),
-          stands b (next + made c + made a) (back_at (next + made c) (made a) pa pb (long a (next + made c)) rest),
+          stands b (next + made c + made a) (behind a (next + made c) pb rest),
         )
     stands (RowSeq terms) next h = stands_for terms next h
     stands (RowCast term n) next h = stands term next h
@@ -198,33 +172,27 @@ module _ (procs : List Proc) where
     stands_for : (terms : RowTerms) (next : ℕ) → HasAt procs next (procs_for terms next) → StandsFor procs terms next
     stands_for NoRowTerms next h = tt
     stands_for (RowTermThen term rest) next h =
-        let a = procs_of term next in
         let b = procs_for rest (next + made term) in (
-          stands term next (has_front procs next a b h),
-          stands_for rest (next + made term) (back_at next (made term) a b
-              (long term next) h),
+          stands term next (has_front procs next (procs_of term next) b h),
+          stands_for rest (next + made term) (behind term next b h),
         )
 
     stands_by : (bindings : RowBindings) (next : ℕ) → HasAt procs next (procs_by bindings next)
         → StandsBy procs bindings next
     stands_by NoRowBindings next h = tt
     stands_by (RowBindingThen name term rest) next h =
-        let a = procs_of term next in
         let b = procs_by rest (next + made term) in (
-          stands term next (has_front procs next a b h),
-          stands_by rest (next + made term) (back_at next (made term) a b
-              (long term next) h),
+          stands term next (has_front procs next (procs_of term next) b h),
+          stands_by rest (next + made term) (behind term next b h),
         )
 
     stands_in : (members : RowMembers) (next : ℕ) → HasAt procs next (procs_in members next)
         → StandsIn procs members next
     stands_in NoRowMembers next h = tt
     stands_in (RowMemberThen name parameters body type rest) next h =
-        let a = procs_of body next in
         let b = procs_in rest (next + made body) in (
-          stands body next (has_front procs next a b h),
-          stands_in rest (next + made body) (back_at next (made body) a b
-              (long body next) h),
+          stands body next (has_front procs next (procs_of body next) b h),
+          stands_in rest (next + made body) (behind body next b h),
         )
 
 -- all procedures of the term stand in the program, and behind them the one that it begins with
@@ -242,6 +210,18 @@ entry_stands term =
 -- no name is free
 abbrev pub IsClosedTerm : RowTerm → Type 0
 IsClosedTerm term = (name : ℕ) → is_among name (free_names term) ≡ false
+
+-- at first the procedures are at the code of the term
+abbrev pub start_on : {C : Type 0} (mode : Mode C) (term : RowTerm) → IsClosedTerm term
+    → FocusOn (converted term) mode (Own (Eval term [])) []
+    (Own (Inside (code term nothing_known 0 0) (λ level. RunUnit) (new_group 0 []))) []
+start_on mode term closed = inl (
+  in_code (converted term) mode term [] nothing_known 0 0 (λ level. RunUnit) (new_group 0 []) (record {
+    fits = λ name. refl;
+    below = λ name o e. none_some e;
+  }) (λ name e. false_true (sym (closed name) ∙ e)) (program_stands term),
+  tt,
+)
 
 module _ {C : Type 0} (mode : Mode C) (told : Told) (term : RowTerm) (input : List ℕ) where
   -- the first state, by the body that the program begins with
@@ -263,20 +243,7 @@ module _ {C : Type 0} (mode : Mode C) (told : Told) (term : RowTerm) (input : Li
         inl (record {
           ended = refl;
           other = refl;
-          on = inl (
-            record {
-              scope = nothing_known;
-              depth = 0;
-              next = 0;
-              l = _;
-              own = _;
-              runs = refl;
-              knows = record { fits = λ name. refl; below = λ name o e. none_some e };
-              covers = λ name e. false_true (sym (closed name) ∙ e);
-              stands = program_stands term;
-            },
-            tt,
-          );
+          on = start_on mode term closed;
           cells = tt;
           world = refl;
         }),

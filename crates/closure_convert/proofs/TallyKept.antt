@@ -1,5 +1,5 @@
 -- The procedures of a term keep within the account of its run in both modes, and so within the calculus's.
-use Rattle.std.proofs.Common.{◌≡◌, inl, ℕ, zero, suc, ◌+◌, List, [], ◌∷◌, length, Option, Some, None}
+use Rattle.std.proofs.Common.{◌≡◌, inl, ℕ, zero, suc, ◌+◌, ◌≤◌, List, [], ◌∷◌, length, Option, Some, None}
 use Rattle.std.proofs.Common.{refl, sym, ap, ◌∙◌, subst, arith}
 use Rattle.run_laws.specs.Runs.{Run, Ending, NeverWrong}
 use Rattle.run_laws.specs.Runs.{Through}
@@ -24,9 +24,9 @@ use Rattle.cast_modes.specs.Counting.{uncounted}
 use Rattle.coer_core.specs.Counts.{counting, run_in, told_of}
 use Rattle.coer_core.specs.Machine.{CoerFrame, CoerFocus, ProjDynFrame, RunState, running, run_start}
 use Rattle.coer_core.specs.MergedTally.{effort_at, effort_acts, merged_asks, merged_budget, by_effort, merged_tallying}
-use Rattle.coer_core.specs.MergedTally.{merged_tally_in, StorageBelow}
+use Rattle.coer_core.specs.MergedTally.{merged_tally_in}
 use Rattle.coer_core.specs.Tally.{Tally, Tallied, turn_kind, kind_acts, made_words, function_words, untallied, tallying}
-use Rattle.coer_core.specs.Tally.{tally_in, Below, SpentBelow}
+use Rattle.coer_core.specs.Tally.{tally_in, reach, SpentBelow}
 use Rattle.coer_core.specs.Terms.{RowTerm, core_of}
 use Rattle.coer_core.proofs.Public.{piled_runs_follow_the_calculus-never_wrong, piled_runs_keep_the_account}
 use Rattle.coer_core.proofs.Public.{merged_runs_follow_the_calculus-never_wrong, merged_runs_keep_the_account}
@@ -35,8 +35,7 @@ use Rattle.flat_ir.specs.Machine.{FlatState, Inside, new_group, first_world, fla
 use Rattle.closure_convert.specs.Conversion.{nothing_known, made, converted, code}
 use Rattle.flat_ir.specs.FlatTally.{Cost, Prices, kind_cost, piled_prices, merged_prices, FlatTally, KeepsTally}
 use Rattle.flat_ir.specs.FlatTally.{PaysTally, FlatBelow, FlatPaidBelow, flat_tally_in, flat_untallied}
-use Rattle.closure_convert.proofs.Carrying.{none_some, false_true}
-use Rattle.closure_convert.proofs.Standing.{IsClosedTerm, program_stands, entry_stands}
+use Rattle.closure_convert.proofs.Standing.{IsClosedTerm, entry_stands, start_on}
 use Rattle.closure_convert.proofs.Moves.{coer_cost, atom_few, size_of}
 use Rattle.closure_convert.proofs.Tallying.{Tallies, Related, keeps_tally}
 use Rattle.closure_convert.proofs.Typed.{typed_closed}
@@ -152,20 +151,7 @@ module _ {C : Type 0} (mode : Mode C) (told : Told) (term : RowTerm) (input : Li
         pair = inl (record {
           ended = refl;
           other = refl;
-          on = inl (
-            record {
-              scope = nothing_known;
-              depth = 0;
-              next = 0;
-              l = _;
-              own = _;
-              runs = refl;
-              knows = record { fits = λ name. refl; below = λ name o e. none_some e };
-              covers = λ name e. false_true (sym (closed name) ∙ e);
-              stands = program_stands term;
-            },
-            tt,
-          );
+          on = start_on mode term closed;
           cells = tt;
           world = refl;
         });
@@ -232,6 +218,19 @@ weaken {X = X} {Y = Y} k l f = record {
   forth = λ n. let a = f.forth n in (a.0, l (X a.0).shown (Y n).shown a.1, a.2);
 }
 
+-- what is at most a tally's storage is within what the tally's is within
+storage_below : (more : ℕ) (a : FlatTally) (t : Tally) (b : Account) → KeepsTally a t
+    → reach t ≤ b.words + b.charge → t.asks ≤ b.charge → t.frames ≤ b.depth + more → FlatBelow more a b
+storage_below more a t b k reach_below asks_below frames_below =
+    let reach = k.reach in
+    let asks = k.asks in
+    let frames = k.frames in
+    record {
+      reach = omega (arith, reach, reach_below);
+      asks = omega (arith, asks, asks_below);
+      frames = omega (arith, frames, frames_below);
+    }
+
 -- an atom for each act, and each act is a step of the calculus
 paid_below : (a : FlatTally) (b : Account) → Through PaysTally SpentBelow a b → FlatPaidBelow a b
 paid_below a b k =
@@ -255,44 +254,16 @@ module _ (casts : List TypeCast) (program : Program) (term : RowTerm) (input : L
       (flat_tally_in (converted term) (made term) (piling program.types casts)
       (piled_prices (piling program.types casts) m) told input) (account program input)
   piled_procedures_keep_account =
-      weaken storage paid_below (within_trans
+      weaken (λ a b k. storage_below 1 a k.0 b k.1 k.2.reach k.2.asks k.2.frames) paid_below (within_trans
       (piled_procedures_keep casts m told term input closed
       (piled_runs_follow_the_calculus-never_wrong casts program term input type reads typed))
       (within_of (piled_runs_keep_the_account casts program term input type reads typed)))
-    where
-      storage : (a : FlatTally) (b : Account) → Through KeepsTally Below a b → FlatBelow 1 a b
-      storage a b k =
-          let reach = k.1.reach in
-          let asks = k.1.asks in
-          let frames = k.1.frames in
-          let reach_below = k.2.reach in
-          let asks_below = k.2.asks in
-          let frames_below = k.2.frames in
-          record {
-            reach = omega (arith, reach, reach_below);
-            asks = omega (arith, asks, asks_below);
-            frames = omega (arith, frames, frames_below);
-          }
 
   pub merged_procedures_keep_account : IsOrderedTable program.types → FollowsWithin (FlatBelow 2) FlatPaidBelow
       (flat_tally_in (converted term) (made term) (merging program.types casts)
       (merged_prices program.types (merging program.types casts) m) told input) (account program input)
   merged_procedures_keep_account table =
-      weaken storage paid_below (within_trans
+      weaken (λ a b k. storage_below 2 a k.0 b k.1 k.2.reach k.2.asks k.2.frames) paid_below (within_trans
       (merged_procedures_keep casts m told term input closed
       (merged_runs_follow_the_calculus-never_wrong casts program term input type reads typed table))
       (merged_runs_keep_the_account casts program term input type reads typed table))
-    where
-      storage : (a : FlatTally) (b : Account) → Through KeepsTally StorageBelow a b → FlatBelow 2 a b
-      storage a b k =
-          let reach = k.1.reach in
-          let asks = k.1.asks in
-          let frames = k.1.frames in
-          let reach_below = k.2.reach in
-          let asks_below = k.2.asks in
-          let frames_below = k.2.frames in
-          record {
-            reach = omega (arith, reach, reach_below);
-            asks = omega (arith, asks, asks_below);
-            frames = omega (arith, frames, frames_below);
-          }
