@@ -78,89 +78,68 @@ module _ {A : Type 0} (K : Knowledge A) (procs : List Proc) (n : ℕ)
       let p = passed (are_read K n known (reads c) && names_fit procs n c) o h in
       ((both (are_read K n known (reads c)) (names_fit procs n c) p.0).1, p.1)
 
-  -- code of which something is known behind it has small numbers
-  pub behind_small : (c : Code) (known : A) → is_there (behind K procs n known c) ≡ true → HasSmallNumbers c
-  behind_small Done known h = tt
-  behind_small (Set d a rest) known h =
-      let f = fitting known (Set d a rest) _ h in behind_small rest _ f.1
-  behind_small (Compute op d a b rest) known h =
-      let f = fitting known (Compute op d a b rest) _ h in behind_small rest _ f.1
-  behind_small (Load d a offset rest) known h =
-      let f = fitting known (Load d a offset rest) _ h in
-      (is_less offset 2048 (both (nat_lt d n) (nat_lt offset 2048) f.0).1, behind_small rest _ f.1)
-  behind_small (Store b a offset rest) known h =
-      let f = fitting known (Store b a offset rest) _ h in (is_less offset 2048 f.0, behind_small rest _ f.1)
-  behind_small (CodeOf d k rest) known h =
-      let f = fitting known (CodeOf d k rest) _ h in behind_small rest _ f.1
-  behind_small (Build d args rest) known h =
-      let f = fitting known (Build d args rest) _ h in
-      (is_less (length args) 256 (both (nat_lt d n) (nat_lt (length args) 256) f.0).1, behind_small rest _ f.1)
-  behind_small (Request d a rest) known h =
-      let f = fitting known (Request d a rest) _ h in behind_small rest _ f.1
-  behind_small (Take a rest) known h = let f = fitting known (Take a rest) _ h in behind_small rest _ f.1
-  behind_small (Environment number a b d e rest) known h =
-      let f = fitting known (Environment number a b d e rest) _ h in behind_small rest _ f.1
-  behind_small (Call d k args rest) known h =
-      let f = fitting known (Call d k args rest) _ h in
-      let there = (both (nat_lt d n) (takes_words (slice_get procs k) args) f.0).1 in
-      (taken k args (slice_get procs k) refl there, behind_small rest _ f.1)
-  behind_small (CallAt d g args rest) known h =
-      let f = fitting known (CallAt d g args rest) _ h in
-      (is_at_most (length args) 8 (both (nat_lt d n) (nat_le (length args) 8) f.0).1, behind_small rest _ f.1)
-  behind_small (If cond a b one other rest) known h =
-      let f = fitting known (If cond a b one other rest) _ h in
-      let k = then_there (meet K (behind K procs n known one) (behind K procs n known other)) _ f.1 in
-      let parts = meet_there (behind K procs n known one) (behind K procs n known other) k.0 k.1 in
-      (behind_small one known parts.0, behind_small other known parts.1, behind_small rest k.0 k.2)
-  behind_small (Return a) known h = tt
-  behind_small (TailCall k args) known h =
-      let f = fitting known (TailCall k args) _ h in taken k args (slice_get procs k) refl f.0
-  behind_small (TailCallAt g args) known h =
-      let f = fitting known (TailCallAt g args) _ h in is_at_most (length args) 8 f.0
-
   -- a procedure that takes words is there
   is_there_at : (k : ℕ) (args : List LowSource) (o : Option Proc) → slice_get procs k ≡ o → takes_words o args ≡ true
       → k < length procs
   is_there_at k args None e h = absurd (let z : ⊥ = cc in z)
   is_there_at k args (Some p) e h = slice_get_within procs k p e
 
-  -- code of which something is known behind it names procedures that are there
-  pub behind_there : (c : Code) (known : A) → is_there (behind K procs n known c) ≡ true
-      → NamesThere (length procs) c
-  behind_there Done known h = tt
-  behind_there (Set d a rest) known h =
-      let f = fitting known (Set d a rest) _ h in behind_there rest _ f.1
-  behind_there (Compute op d a b rest) known h =
-      let f = fitting known (Compute op d a b rest) _ h in behind_there rest _ f.1
-  behind_there (Load d a offset rest) known h =
-      let f = fitting known (Load d a offset rest) _ h in behind_there rest _ f.1
-  behind_there (Store b a offset rest) known h =
-      let f = fitting known (Store b a offset rest) _ h in behind_there rest _ f.1
-  behind_there (CodeOf d k rest) known h =
+  -- code of which something is known behind it has small numbers, and names procedures that are there
+  behind_fits : (c : Code) (known : A) → is_there (behind K procs n known c) ≡ true
+      → HasSmallNumbers c × NamesThere (length procs) c
+  behind_fits Done known h = (tt, tt)
+  behind_fits (Set d a rest) known h = behind_fits rest _ (fitting known (Set d a rest) _ h).1
+  behind_fits (Compute op d a b rest) known h = behind_fits rest _ (fitting known (Compute op d a b rest) _ h).1
+  behind_fits (Load d a offset rest) known h =
+      let f = fitting known (Load d a offset rest) _ h in
+      let r = behind_fits rest _ f.1 in
+      ((is_less offset 2048 (both (nat_lt d n) (nat_lt offset 2048) f.0).1, r.0), r.1)
+  behind_fits (Store b a offset rest) known h =
+      let f = fitting known (Store b a offset rest) _ h in
+      let r = behind_fits rest _ f.1 in
+      ((is_less offset 2048 f.0, r.0), r.1)
+  behind_fits (CodeOf d k rest) known h =
       let f = fitting known (CodeOf d k rest) _ h in
-      (is_less k (length procs) (both (nat_lt d n) (nat_lt k (length procs)) f.0).1, behind_there rest _ f.1)
-  behind_there (Build d args rest) known h =
-      let f = fitting known (Build d args rest) _ h in behind_there rest _ f.1
-  behind_there (Request d a rest) known h =
-      let f = fitting known (Request d a rest) _ h in behind_there rest _ f.1
-  behind_there (Take a rest) known h = let f = fitting known (Take a rest) _ h in behind_there rest _ f.1
-  behind_there (Environment number a b d e rest) known h =
-      let f = fitting known (Environment number a b d e rest) _ h in behind_there rest _ f.1
-  behind_there (Call d k args rest) known h =
+      let r = behind_fits rest _ f.1 in
+      (r.0, (is_less k (length procs) (both (nat_lt d n) (nat_lt k (length procs)) f.0).1, r.1))
+  behind_fits (Build d args rest) known h =
+      let f = fitting known (Build d args rest) _ h in
+      let r = behind_fits rest _ f.1 in
+      ((is_less (length args) 256 (both (nat_lt d n) (nat_lt (length args) 256) f.0).1, r.0), r.1)
+  behind_fits (Request d a rest) known h = behind_fits rest _ (fitting known (Request d a rest) _ h).1
+  behind_fits (Take a rest) known h = behind_fits rest _ (fitting known (Take a rest) _ h).1
+  behind_fits (Environment number a b d e rest) known h =
+      behind_fits rest _ (fitting known (Environment number a b d e rest) _ h).1
+  behind_fits (Call d k args rest) known h =
       let f = fitting known (Call d k args rest) _ h in
       let there = (both (nat_lt d n) (takes_words (slice_get procs k) args) f.0).1 in
-      (is_there_at k args (slice_get procs k) refl there, behind_there rest _ f.1)
-  behind_there (CallAt d g args rest) known h =
-      let f = fitting known (CallAt d g args rest) _ h in behind_there rest _ f.1
-  behind_there (If cond a b one other rest) known h =
+      let r = behind_fits rest _ f.1 in
+      ((taken k args (slice_get procs k) refl there, r.0), (is_there_at k args (slice_get procs k) refl there, r.1))
+  behind_fits (CallAt d g args rest) known h =
+      let f = fitting known (CallAt d g args rest) _ h in
+      let r = behind_fits rest _ f.1 in
+      ((is_at_most (length args) 8 (both (nat_lt d n) (nat_le (length args) 8) f.0).1, r.0), r.1)
+  behind_fits (If cond a b one other rest) known h =
       let f = fitting known (If cond a b one other rest) _ h in
       let k = then_there (meet K (behind K procs n known one) (behind K procs n known other)) _ f.1 in
       let parts = meet_there (behind K procs n known one) (behind K procs n known other) k.0 k.1 in
-      (behind_there one known parts.0, behind_there other known parts.1, behind_there rest k.0 k.2)
-  behind_there (Return a) known h = tt
-  behind_there (TailCall k args) known h =
-      let f = fitting known (TailCall k args) _ h in is_there_at k args (slice_get procs k) refl f.0
-  behind_there (TailCallAt g args) known h = tt
+      let x = behind_fits one known parts.0 in
+      let y = behind_fits other known parts.1 in
+      let r = behind_fits rest k.0 k.2 in
+      ((x.0, y.0, r.0), (x.1, y.1, r.1))
+  behind_fits (Return a) known h = (tt, tt)
+  behind_fits (TailCall k args) known h =
+      let f = fitting known (TailCall k args) _ h in
+      (taken k args (slice_get procs k) refl f.0, is_there_at k args (slice_get procs k) refl f.0)
+  behind_fits (TailCallAt g args) known h =
+      (is_at_most (length args) 8 (fitting known (TailCallAt g args) _ h).0, tt)
+
+  pub behind_small : (c : Code) (known : A) → is_there (behind K procs n known c) ≡ true → HasSmallNumbers c
+  behind_small c known h = (behind_fits c known h).0
+
+  pub behind_there : (c : Code) (known : A) → is_there (behind K procs n known c) ≡ true
+      → NamesThere (length procs) c
+  behind_there c known h = (behind_fits c known h).1
 
 -- the parts of a closed procedure
 pub record ClosedParts (procs : List Proc) (p : Proc) : Type 0 where

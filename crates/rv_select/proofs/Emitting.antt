@@ -1,14 +1,17 @@
 -- Items that are put one after another.
 use Rattle.std.proofs.Common.{append_assoc, ℕ, zero, suc, ◌+◌, ◌*◌, ◌<◌, ◌≡◌, List, [], ◌∷◌, ◌++◌, refl, sym, ◌∙◌}
-use Rattle.std.proofs.Common.{ap, arith, take, get_or, length}
+use Rattle.std.proofs.Common.{ap, subst, arith, take, get_or, length}
 use Rattle.machine_words.specs.declared.conditions.Cond.{Cond}
+use Rattle.low_ir.specs.declared.code.LowCode.{LowCode}
 use Rattle.low_ir.specs.declared.code.LowSource.{LowSource}
 use Rattle.low_ir.specs.declared.code.WordOp.{WordOp}
 use Rattle.low_ir.specs.Procedures.{Code, If}
+use Rattle.low_ir.specs.Views.{code_of}
 use Rattle.rv_select.specs.declared.convention.TheConstants.{FIRST_SCRATCH, SECOND_SCRATCH, FIRST_ARGUMENT, ALLOCATION}
 use Rattle.rv_select.specs.declared.code.VReg.TheVariants.{Real, Virtual}
 use Rattle.rv_select.specs.declared.code.VirtualItem.{VirtualItem}
 use Rattle.rv_select.specs.declared.code.VirtualItem.TheVariants.{Move, Store, Branch, Jump, Mark}
+use Rattle.rv_select.specs.Sizes.{HasSmallNumbers}
 use Rattle.rv_select.specs.Select.{put_item, source_reg, source_items, args_items, params_items, stores_items}
 use Rattle.rv_select.specs.Select.{branch_items, code_items, marks_in}
 use Rattle.rv_select.specs.Select.{compute_items, load_items, store_items, build_items, request_items, take_items}
@@ -145,6 +148,21 @@ marks_more m m1 m2 m3 m4 cond a b one other rest d e f g = omega (arith, d, e, f
 -- behind the items of a step stand those of the rest
 pub behind : (i0 i1 xs ys whole : List VirtualItem) → i1 ≡ i0 ++ xs → xs ++ ys ≡ whole → i1 ++ ys ≡ i0 ++ whole
 behind i0 i1 xs ys whole h e = ap (λ z. z ++ ys) h ∙ (append_assoc i0 xs ys ∙ ap (λ z. i0 ++ z) e)
+
+-- what is done and what the rest gives are all, also behind an instruction x that makes no mark
+pub goes_on : (first out marks : ℕ) (before new : List VirtualItem) {all : List VirtualItem} {last : ℕ}
+    (left next : LowCode) (x rest : Code) → code_of left ≡ x → code_of next ≡ rest
+    → new ++ code_items first out marks rest ≡ before ++ code_items first out marks x → marks_in x ≡ marks_in rest
+    → (HasSmallNumbers x → HasSmallNumbers rest) → before ++ code_items first out marks (code_of left) ≡ all
+    → marks + marks_in (code_of left) ≡ last → HasSmallNumbers (code_of left)
+    → (new ++ code_items first out marks (code_of next) ≡ all) × (marks + marks_in (code_of next) ≡ last)
+    × HasSmallNumbers (code_of next)
+goes_on first out marks before new left next x rest l r items same smaller whole count small = (
+  ap (λ c. new ++ code_items first out marks c) r ∙ items
+      ∙ sym (ap (λ c. before ++ code_items first out marks c) l) ∙ whole,
+  ap (λ c. marks + marks_in c) r ∙ sym (ap (λ n. marks + n) same) ∙ sym (ap (λ c. marks + marks_in c) l) ∙ count,
+  subst HasSmallNumbers (sym r) (smaller (subst HasSmallNumbers l small)),
+)
 
 -- so they do behind an operation, and behind each of the others
 pub compute_behind : (first : ℕ) (op : WordOp) (d : ℕ) (a b : LowSource) (i0 i1 ys : List VirtualItem)

@@ -1,7 +1,7 @@
-use Rattle.std.proofs.Common.{rules, ◌∙◌, refl}
+use Rattle.std.proofs.Common.{rules, ◌∙◌, refl, ap}
 use Rattle.low_ir.specs.declared.code.LowCode.{the_lemmas}
 use Rattle.low_ir.specs.Views.{code_of}
-use Rattle.rv_select.proofs.Emitting.{behind, build_behind, call_at_behind, call_behind, compute_behind, if_more}
+use Rattle.rv_select.proofs.Emitting.{behind, build_behind, call_at_behind, call_behind, compute_behind, goes_on, if_more}
 use Rattle.rv_select.proofs.Emitting.{load_behind, marks_more, request_behind, store_behind, take_behind}
 use Rattle.rv_select.proofs.selection.+put_code.Goals as goal
 
@@ -28,112 +28,102 @@ loop-left-preserved t c =
 
 pub loop-left-preserved-in-Compute : goal.loop-left-preserved-in-Compute
 loop-left-preserved-in-Compute t c =
-    let items = compute_behind c.args.first c.in-Compute.op c.in-Compute.d c.in-Compute.a c.in-Compute.b
-    _ _ _ c.in_ok-put_compute-in-Compute.ensures in
-    let small = rw c.in-Compute.is at c.loop-left.invariant.2 in (
-      rw c.deref-left-in-Compute.ensures (items ∙ (rw c.in-Compute.is at c.loop-left.invariant.0)),
-      rw c.deref-left-in-Compute.ensures (rw c.in-Compute.is at c.loop-left.invariant.1),
-      rw c.deref-left-in-Compute.ensures small,
-      search (rules, the_lemmas),
-    )
+    let r = goes_on c.args.first c.args.out c.loop-left.marks c.loop-left.items _ c.loop-left.left.now
+    c.deref-left-in-Compute.result.now _ _
+    (ap code_of c.in-Compute.is) (ap code_of c.deref-left-in-Compute.ensures)
+    (compute_behind c.args.first c.in-Compute.op c.in-Compute.d c.in-Compute.a c.in-Compute.b _ _ _
+    c.in_ok-put_compute-in-Compute.ensures) refl (λ h. h)
+    c.loop-left.invariant.0 c.loop-left.invariant.1 c.loop-left.invariant.2 in
+    (r.0, r.1, r.2, search (rules, the_lemmas))
 
 pub loop-left-preserved-in-Load : goal.loop-left-preserved-in-Load
 loop-left-preserved-in-Load t c =
-    let small = rw c.in-Load.is at c.loop-left.invariant.2 in (
-      rw c.deref-left-in-Load.ensures (load_behind c.args.first _ _ _ _ _ _ c.in_ok-put_load-in-Load.ensures
-          ∙ (rw c.in-Load.is at c.loop-left.invariant.0)),
-      rw c.deref-left-in-Load.ensures (rw c.in-Load.is at c.loop-left.invariant.1),
-      rw c.deref-left-in-Load.ensures small.1,
-      search (rules, the_lemmas),
-    )
+    let r = goes_on c.args.first c.args.out c.loop-left.marks c.loop-left.items _ c.loop-left.left.now
+    c.deref-left-in-Load.result.now _ _
+    (ap code_of c.in-Load.is) (ap code_of c.deref-left-in-Load.ensures)
+    (load_behind c.args.first _ _ _ _ _ _ c.in_ok-put_load-in-Load.ensures) refl (λ h. h.1)
+    c.loop-left.invariant.0 c.loop-left.invariant.1 c.loop-left.invariant.2 in
+    (r.0, r.1, r.2, search (rules, the_lemmas))
 
 pub loop-left-preserved-in-Store : goal.loop-left-preserved-in-Store
 loop-left-preserved-in-Store t c =
-    let small = rw c.in-Store.is at c.loop-left.invariant.2 in (
-      rw c.deref-left-in-Store.ensures (store_behind c.args.first _ _ _ _ _ _ c.in_ok-put_store-in-Store.ensures
-          ∙ (rw c.in-Store.is at c.loop-left.invariant.0)),
-      rw c.deref-left-in-Store.ensures (rw c.in-Store.is at c.loop-left.invariant.1),
-      rw c.deref-left-in-Store.ensures small.1,
-      search (rules, the_lemmas),
-    )
+    let r = goes_on c.args.first c.args.out c.loop-left.marks c.loop-left.items _ c.loop-left.left.now
+    c.deref-left-in-Store.result.now _ _
+    (ap code_of c.in-Store.is) (ap code_of c.deref-left-in-Store.ensures)
+    (store_behind c.args.first _ _ _ _ _ _ c.in_ok-put_store-in-Store.ensures) refl (λ h. h.1)
+    c.loop-left.invariant.0 c.loop-left.invariant.1 c.loop-left.invariant.2 in
+    (r.0, r.1, r.2, search (rules, the_lemmas))
 
 pub loop-left-preserved-in-Build : goal.loop-left-preserved-in-Build
 loop-left-preserved-in-Build t c =
-    let small = rw c.in-Build.is at c.loop-left.invariant.2 in (
-      rw c.deref-left-in-Build.ensures (build_behind c.args.first _ _ _ _ _ _ c.in_ok-put_build-in-Build.ensures
-          ∙ (rw c.in-Build.is at c.loop-left.invariant.0)),
-      rw c.deref-left-in-Build.ensures (rw c.in-Build.is at c.loop-left.invariant.1),
-      rw c.deref-left-in-Build.ensures small.1,
-      search (rules, the_lemmas),
-    )
+    let r = goes_on c.args.first c.args.out c.loop-left.marks c.loop-left.items _ c.loop-left.left.now
+    c.deref-left-in-Build.result.now _ _
+    (ap code_of c.in-Build.is) (ap code_of c.deref-left-in-Build.ensures)
+    (build_behind c.args.first _ _ _ _ _ _ c.in_ok-put_build-in-Build.ensures) refl (λ h. h.1)
+    c.loop-left.invariant.0 c.loop-left.invariant.1 c.loop-left.invariant.2 in
+    (r.0, r.1, r.2, search (rules, the_lemmas))
 
 pub loop-left-preserved-in-Request : goal.loop-left-preserved-in-Request
 loop-left-preserved-in-Request t c =
-    let items = request_behind c.args.first _ _ _ _ _ _ c.in_ok-put_request-in-Request.ensures in
-    let small = rw c.in-Request.is at c.loop-left.invariant.2 in (
-      rw c.deref-left-in-Request.ensures (items ∙ (rw c.in-Request.is at c.loop-left.invariant.0)),
-      rw c.deref-left-in-Request.ensures (rw c.in-Request.is at c.loop-left.invariant.1),
-      rw c.deref-left-in-Request.ensures small,
-      search (rules, the_lemmas),
-    )
+    let r = goes_on c.args.first c.args.out c.loop-left.marks c.loop-left.items _ c.loop-left.left.now
+    c.deref-left-in-Request.result.now _ _
+    (ap code_of c.in-Request.is) (ap code_of c.deref-left-in-Request.ensures)
+    (request_behind c.args.first _ _ _ _ _ _ c.in_ok-put_request-in-Request.ensures) refl (λ h. h)
+    c.loop-left.invariant.0 c.loop-left.invariant.1 c.loop-left.invariant.2 in
+    (r.0, r.1, r.2, search (rules, the_lemmas))
 
 pub loop-left-preserved-in-Take : goal.loop-left-preserved-in-Take
 loop-left-preserved-in-Take t c =
-    let small = rw c.in-Take.is at c.loop-left.invariant.2 in (
-      rw c.deref-left-in-Take.ensures (take_behind c.args.first _ _ _ _ c.in_ok-put_take-in-Take.ensures
-          ∙ (rw c.in-Take.is at c.loop-left.invariant.0)),
-      rw c.deref-left-in-Take.ensures (rw c.in-Take.is at c.loop-left.invariant.1),
-      rw c.deref-left-in-Take.ensures small,
-      search (rules, the_lemmas),
-    )
+    let r = goes_on c.args.first c.args.out c.loop-left.marks c.loop-left.items _ c.loop-left.left.now
+    c.deref-left-in-Take.result.now _ _
+    (ap code_of c.in-Take.is) (ap code_of c.deref-left-in-Take.ensures)
+    (take_behind c.args.first _ _ _ _ c.in_ok-put_take-in-Take.ensures) refl (λ h. h)
+    c.loop-left.invariant.0 c.loop-left.invariant.1 c.loop-left.invariant.2 in
+    (r.0, r.1, r.2, search (rules, the_lemmas))
 
 pub loop-left-preserved-in-Environment : goal.loop-left-preserved-in-Environment
 loop-left-preserved-in-Environment t c =
-    let small = rw c.in-Environment.is at c.loop-left.invariant.2 in (
-      rw c.deref-left-in-Environment.ensures (behind _ _ _ _ _ c.in_ok-put_environment-in-Environment.ensures refl
-          ∙ (rw c.in-Environment.is at c.loop-left.invariant.0)),
-      rw c.deref-left-in-Environment.ensures (rw c.in-Environment.is at c.loop-left.invariant.1),
-      rw c.deref-left-in-Environment.ensures small,
-      search (rules, the_lemmas),
-    )
+    let r = goes_on c.args.first c.args.out c.loop-left.marks c.loop-left.items _ c.loop-left.left.now
+    c.deref-left-in-Environment.result.now _ _
+    (ap code_of c.in-Environment.is) (ap code_of c.deref-left-in-Environment.ensures)
+    (behind _ _ _ _ _ c.in_ok-put_environment-in-Environment.ensures refl) refl (λ h. h)
+    c.loop-left.invariant.0 c.loop-left.invariant.1 c.loop-left.invariant.2 in
+    (r.0, r.1, r.2, search (rules, the_lemmas))
 
 pub loop-left-preserved-in-Call : goal.loop-left-preserved-in-Call
 loop-left-preserved-in-Call t c =
-    let small = rw c.in-Call.is at c.loop-left.invariant.2 in (
-      rw c.deref-left-in-Call.ensures (call_behind c.args.first _ _ _ _ _ _ c.in_ok-put_call-in-Call.ensures
-          ∙ (rw c.in-Call.is at c.loop-left.invariant.0)),
-      rw c.deref-left-in-Call.ensures (rw c.in-Call.is at c.loop-left.invariant.1),
-      rw c.deref-left-in-Call.ensures small.1,
-      search (rules, the_lemmas),
-    )
+    let r = goes_on c.args.first c.args.out c.loop-left.marks c.loop-left.items _ c.loop-left.left.now
+    c.deref-left-in-Call.result.now _ _
+    (ap code_of c.in-Call.is) (ap code_of c.deref-left-in-Call.ensures)
+    (call_behind c.args.first _ _ _ _ _ _ c.in_ok-put_call-in-Call.ensures) refl (λ h. h.1)
+    c.loop-left.invariant.0 c.loop-left.invariant.1 c.loop-left.invariant.2 in
+    (r.0, r.1, r.2, search (rules, the_lemmas))
 
 pub loop-left-preserved-in-CallAt : goal.loop-left-preserved-in-CallAt
 loop-left-preserved-in-CallAt t c =
-    let small = rw c.in-CallAt.is at c.loop-left.invariant.2 in (
-      rw c.deref-left-in-CallAt.ensures (call_at_behind c.args.first _ _ _ _ _ _ c.in_ok-put_call_at-in-CallAt.ensures
-          ∙ (rw c.in-CallAt.is at c.loop-left.invariant.0)),
-      rw c.deref-left-in-CallAt.ensures (rw c.in-CallAt.is at c.loop-left.invariant.1),
-      rw c.deref-left-in-CallAt.ensures small.1,
-      search (rules, the_lemmas),
-    )
+    let r = goes_on c.args.first c.args.out c.loop-left.marks c.loop-left.items _ c.loop-left.left.now
+    c.deref-left-in-CallAt.result.now _ _
+    (ap code_of c.in-CallAt.is) (ap code_of c.deref-left-in-CallAt.ensures)
+    (call_at_behind c.args.first _ _ _ _ _ _ c.in_ok-put_call_at-in-CallAt.ensures) refl (λ h. h.1)
+    c.loop-left.invariant.0 c.loop-left.invariant.1 c.loop-left.invariant.2 in
+    (r.0, r.1, r.2, search (rules, the_lemmas))
 
 pub loop-left-preserved-in-Set : goal.loop-left-preserved-in-Set
 loop-left-preserved-in-Set t c =
     let put = rw (c.in_ok-put_item-in-Set.ensures, c.in_ok-local-in-Set.ensures) at c.in_ok-push-in-Set.ensures.ok in
-    let small = rw c.in-Set.is at c.loop-left.invariant.2 in (
-      rw c.deref-left.ensures (behind _ _ _ _ _ put refl ∙ (rw c.in-Set.is at c.loop-left.invariant.0)),
-      rw c.deref-left.ensures (rw c.in-Set.is at c.loop-left.invariant.1),
-      rw c.deref-left.ensures small,
-      search (rules, the_lemmas),
-    )
+    let r = goes_on c.args.first c.args.out c.loop-left.marks c.loop-left.items _ c.loop-left.left.now
+    c.deref-left.result.now _ _
+    (ap code_of c.in-Set.is) (ap code_of c.deref-left.ensures)
+    (behind _ _ _ _ _ put refl) refl (λ h. h)
+    c.loop-left.invariant.0 c.loop-left.invariant.1 c.loop-left.invariant.2 in
+    (r.0, r.1, r.2, search (rules, the_lemmas))
 
 pub loop-left-preserved-in-CodeOf : goal.loop-left-preserved-in-CodeOf
 loop-left-preserved-in-CodeOf t c =
     let put = rw c.in_ok-local-in-CodeOf.ensures at c.in_ok-push-in-CodeOf.ensures.ok in
-    let small = rw c.in-CodeOf.is at c.loop-left.invariant.2 in (
-      rw c.deref-left-in-CodeOf.ensures (behind _ _ _ _ _ put refl
-          ∙ (rw c.in-CodeOf.is at c.loop-left.invariant.0)),
-      rw c.deref-left-in-CodeOf.ensures (rw c.in-CodeOf.is at c.loop-left.invariant.1),
-      rw c.deref-left-in-CodeOf.ensures small,
-      search (rules, the_lemmas),
-    )
+    let r = goes_on c.args.first c.args.out c.loop-left.marks c.loop-left.items _ c.loop-left.left.now
+    c.deref-left-in-CodeOf.result.now _ _
+    (ap code_of c.in-CodeOf.is) (ap code_of c.deref-left-in-CodeOf.ensures)
+    (behind _ _ _ _ _ put refl) refl (λ h. h)
+    c.loop-left.invariant.0 c.loop-left.invariant.1 c.loop-left.invariant.2 in
+    (r.0, r.1, r.2, search (rules, the_lemmas))
