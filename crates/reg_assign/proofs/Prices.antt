@@ -25,6 +25,7 @@ use Rattle.reg_assign.specs.Rename.{densely, named, name, rename, index_of, kept
 use Rattle.reg_assign.specs.Prices.{word_price, reach, register_price, constant_price, move_price, raise_price}
 use Rattle.reg_assign.specs.Prices.{leave_price, price, OwnsNamed}
 use Rattle.reg_assign.proofs.Dense.{near, few}
+use Rattle.reg_assign.proofs.RenamedPrices.{near_less}
 use Rattle.reg_assign.proofs.Keeps.{own_first}
 
 -- ---- how long items are
@@ -215,16 +216,9 @@ word_some a = pick (nat_lt a 2048) (is_half a)
     pick false false = omega arith
 
 reach_less : (a b : ℕ) → a ≤ b → b < 2 ^ 63 → reach a ≤ reach b
-reach_less a b h k = pick (nat_lt a 2048) (nat_lt b 2048) refl refl
-  where
-    pick : (c d : Bool) → nat_lt a 2048 ≡ c → nat_lt b 2048 ≡ d
-        → (if c then 1 else word_price a + 2) ≤ (if d then 1 else word_price b + 2)
-    pick true true x y = omega arith
-    pick true false x y = omega arith
-    pick false false x y = let z = word_less a b h k in omega (arith, z)
-    pick false true x y =
-        let p : 2048 ≤ a = grind arith in
-        let q : b < 2048 = grind arith in absurd (let o : ⊥ = omega (arith, p, q, h) in o)
+reach_less a b h k =
+    let z = word_less a b h k in
+    near_less 2048 a b 1 (word_price a + 2) 1 (word_price b + 2) h (omega arith) (omega arith) (omega (arith, z))
 
 reach_some : (a : ℕ) → 1 ≤ reach a
 reach_some a = pick (nat_lt a 2048)
@@ -234,16 +228,9 @@ reach_some a = pick (nat_lt a 2048)
     pick false = omega arith
 
 raise_less : (a b : ℕ) → a ≤ b → b < 2 ^ 63 → raise_price a ≤ raise_price b
-raise_less a b h k = pick (nat_lt a 2048) (nat_lt b 2048) refl refl
-  where
-    pick : (c d : Bool) → nat_lt a 2048 ≡ c → nat_lt b 2048 ≡ d
-        → (if c then 1 else word_price a + 1) ≤ (if d then 1 else word_price b + 1)
-    pick true true x y = omega arith
-    pick true false x y = omega arith
-    pick false false x y = let z = word_less a b h k in omega (arith, z)
-    pick false true x y =
-        let p : 2048 ≤ a = grind arith in
-        let q : b < 2048 = grind arith in absurd (let o : ⊥ = omega (arith, p, q, h) in o)
+raise_less a b h k =
+    let z = word_less a b h k in
+    near_less 2048 a b 1 (word_price a + 1) 1 (word_price b + 1) h (omega arith) (omega arith) (omega (arith, z))
 
 -- a procedure with the slots that are left is entered at no more than with one for each register
 pub enter_less : (place : ℕ → Place) (f : Found) (k : ℕ) → f.count < 2 ^ 32

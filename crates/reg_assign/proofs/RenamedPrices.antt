@@ -29,32 +29,26 @@ use Rattle.reg_assign.proofs.Renaming.{code_next}
 
 -- ---- what is nearer, and what has fewer registers, costs no more
 
-slot_less : (a b : ℕ) → a ≤ b → slot_price a ≤ slot_price b
-slot_less a b h = pick (nat_lt a 255) (nat_lt b 255) refl refl
+-- what is cheaper within a limit costs no more where it is nearer
+pub near_less : (limit a b near far near' far' : ℕ) → a ≤ b → near ≤ near' → near ≤ far' → far ≤ far'
+    → (if nat_lt a limit then near else far) ≤ (if nat_lt b limit then near' else far')
+near_less limit a b near far near' far' h both apart beyond = pick (nat_lt a limit) (nat_lt b limit) refl refl
   where
-    pick : (c d : Bool) → nat_lt a 255 ≡ c → nat_lt b 255 ≡ d → (if c then 1 else 13) ≤ (if d then 1 else 13)
-    pick true true e f = omega arith
-    pick true false e f = omega arith
-    pick false false e f = omega arith
+    pick : (c d : Bool) → nat_lt a limit ≡ c → nat_lt b limit ≡ d
+        → (if c then near else far) ≤ (if d then near' else far')
+    pick true true e f = both
+    pick true false e f = apart
+    pick false false e f = beyond
     pick false true e f = absurd (let z : ⊥ = grind arith in z)
+
+slot_less : (a b : ℕ) → a ≤ b → slot_price a ≤ slot_price b
+slot_less a b h = near_less 255 a b 1 13 1 13 h (omega arith) (omega arith) (omega arith)
 
 entering_less : (a b : ℕ) → a ≤ b → entering a ≤ entering b
-entering_less a b h = pick (nat_lt a 255) (nat_lt b 255) refl refl
-  where
-    pick : (c d : Bool) → nat_lt a 255 ≡ c → nat_lt b 255 ≡ d → (if c then 15 else 25) ≤ (if d then 15 else 25)
-    pick true true e f = omega arith
-    pick true false e f = omega arith
-    pick false false e f = omega arith
-    pick false true e f = absurd (let z : ⊥ = grind arith in z)
+entering_less a b h = near_less 255 a b 15 25 15 25 h (omega arith) (omega arith) (omega arith)
 
 giving_up_less : (a b : ℕ) → a ≤ b → giving_up a ≤ giving_up b
-giving_up_less a b h = pick (nat_lt a 255) (nat_lt b 255) refl refl
-  where
-    pick : (c d : Bool) → nat_lt a 255 ≡ c → nat_lt b 255 ≡ d → (if c then 2 else 13) ≤ (if d then 2 else 13)
-    pick true true e f = omega arith
-    pick true false e f = omega arith
-    pick false false e f = omega arith
-    pick false true e f = absurd (let z : ⊥ = grind arith in z)
+giving_up_less a b h = near_less 255 a b 2 13 2 13 h (omega arith) (omega arith) (omega arith)
 
 module _ {V : Type 0} (w : Pass V) where
   -- a claim wherever a step doesn't go wrong
