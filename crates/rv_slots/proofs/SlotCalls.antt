@@ -32,7 +32,7 @@ use Rattle.rv_slots.proofs.Paying.{cost, cost_is, comes_there, is_there, comes_o
 use Rattle.rv_slots.proofs.PutWords.{OnlyIn}
 use Rattle.rv_slots.proofs.Items.{Then, ThenOn, as_at, regrouped, stands_small, stands_aligned, mark_stands}
 use Rattle.rv_slots.proofs.Items.{does, jumps, goes_past, taken, addresses, lands, words}
-use Rattle.rv_slots.proofs.Frames.{Slotting, none_is, readable_low, low_reg, other_get, get_only, scratch_same}
+use Rattle.rv_slots.proofs.Frames.{Slotting, none_is, readable_low, low_reg, unset, other_get, get_only, scratch_same}
 use Rattle.rv_slots.proofs.Frames.{set_fits, fits_only, stored_fits, program, M, N, Stand, rest_of}
 use Rattle.rv_slots.proofs.Frames.{has_rest, HasHome, Stacked, stack_is, stack_high, stack_same, Body, On}
 use Rattle.rv_slots.proofs.Frames.{Same, Seen, seen_of, seen_still, as_alike, Way, way_first, way_second}
@@ -89,16 +89,8 @@ module _ {V : Type 0} (w : Slotting V) where
       does (program w) (Way w t t) (Out t f) s (set_reg 17 6 s.regs) s.memory c tt (λ ecall ebreak pc. refl)
       (way_first w t t s seen) (λ n c1.
       let s1 : State = record s { regs = set_reg 17 6 s.regs; pc = n } in
-      let seen1 : Seen w t s1 = record {
-        memory = seen.memory;
-        stack = seen.stack;
-        alloc = seen.alloc;
-        top = seen.top;
-        world = seen.world;
-        layout = seen.layout;
-        above = seen.above;
-        used = seen.used;
-      } in
+      let seen1 : Seen w t s1 =
+      seen_still w t s (set_reg 17 6 s.regs) n 17 seen (λ q e. unset q 17 6 s.regs e) refl refl refl refl in
       let at = as_at (program w) s1 c1 in
       let stops = call_stops (program w) (Lacks Stack) at tt (λ pc.
       w.calls at.place (record s1 { pc = pc }) ∙ lacks_stack (record s1 { pc = pc }) refl) in
@@ -161,16 +153,7 @@ module _ {V : Type 0} (w : Slotting V) where
           ap (λ x. (s.regs 2 + (2 ^ 64 - x)) % 2 ^ 64) e ∙ y
 
       seen2 : (n : ℕ) → Seen w t (record s { regs = regs2; pc = n })
-      seen2 n = record {
-        memory = seen.memory;
-        stack = seen.stack;
-        alloc = seen.alloc;
-        top = seen.top;
-        world = seen.world;
-        layout = seen.layout;
-        above = seen.above;
-        used = seen.used;
-      }
+      seen2 n = seen_still w t s regs2 n 29 seen (λ q e. unset q 29 free s.regs e) refl refl refl refl
 
       less : (c : Bool) → nat_lt free need ≡ c → nat_lt free (get_reg s.regs 28) ≡ c
       less c h = ap (λ x. nat_lt free x) size28 ∙ h
