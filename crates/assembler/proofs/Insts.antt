@@ -10,13 +10,14 @@ use Rattle.rv_isa.specs.Decoding.{decode_of}
 use Rattle.rv_machine.specs.declared.real.RealItem.{RealItem}
 use Rattle.rv_machine.specs.declared.real.RealItem.TheVariants.{Op, Mark, Jump, Branch, Address}
 use Rattle.rv_isa.specs.Encoding.{encode_of}
-use Rattle.assembler.specs.Layout.{width, is_near, longest_widths, widths_from, address_of}
+use Rattle.assembler.specs.Layout.{longest, width, is_near, longest_widths, widths_from, address_of}
 use Rattle.assembler.specs.Expansion.{insts_of, item_insts, insts_from, target_of, code_insts}
 use Rattle.assembler.specs.Imaging.{inst_words}
 use Rattle.assembler.specs.Conditions.{is_mark}
 use Rattle.assembler.specs.Encoded.{AllDecode}
 use Rattle.assembler.specs.Tables.{HoldsSums}
 use Rattle.assembler.proofs.Sums.{sum_push, sums_more}
+use Rattle.assembler.proofs.Distances.{no_wider}
 
 pub decode_append : (xs ys : List Inst) → AllDecode xs → AllDecode ys → AllDecode (xs ++ ys)
 decode_append [] ys a b = b
@@ -68,17 +69,15 @@ item_long false here target (Jump rd mark) = refl
 item_long false here target (Branch cond a b mark) = refl
 item_long false here target (Address rd mark) = refl
 
+longest_small : (item : RealItem) → longest item ≤ 11
+longest_small (Op i) = omega arith
+longest_small (Mark mark) = omega arith
+longest_small (Jump rd mark) = omega arith
+longest_small (Branch cond a b mark) = omega arith
+longest_small (Address rd mark) = omega arith
+
 width_small : (near : Bool) (item : RealItem) → width near item ≤ 11
-width_small true (Op i) = omega arith
-width_small true (Mark mark) = omega arith
-width_small true (Jump rd mark) = omega arith
-width_small true (Branch cond a b mark) = omega arith
-width_small true (Address rd mark) = omega arith
-width_small false (Op i) = omega arith
-width_small false (Mark mark) = omega arith
-width_small false (Jump rd mark) = omega arith
-width_small false (Branch cond a b mark) = omega arith
-width_small false (Address rd mark) = omega arith
+width_small near item = let a = no_wider near item in let b = longest_small item in omega (arith, a, b)
 
 width_some : (near : Bool) (item : RealItem) → is_mark item ≡ false → 1 ≤ width near item
 width_some true (Op i) e = omega arith

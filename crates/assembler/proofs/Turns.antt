@@ -1,6 +1,6 @@
 -- What instructions do on states that are the same but for x31, and that they leave code as it is.
 use Rattle.std.proofs.Common.{subst, length, ℕ, ◌+◌, ◌-◌, ◌*◌, ◌/◌, ◌%◌, ◌^◌, ◌<◌, ◌≡◌, ◌≢◌, inl, Bool, true, false}
-use Rattle.std.proofs.Common.{List, [], ◌∷◌, Option, Some, None, refl, sym, ◌∙◌, ap, arith}
+use Rattle.std.proofs.Common.{List, [], ◌∷◌, Option, Some, None, refl, sym, ◌∙◌, ap, ap₂, arith}
 use Rattle.std.proofs.lemmas.Bool.{true≢false}
 use Rattle.std.specs.Prelude.{ℤ, int_lt, ◌==◌, ◌&&◌, not, nat_lt, nat_le, if◌then◌else◌, bit_and, bit_or, bit_xor}
 use Rattle.std.specs.Prelude.{Contains, slice_get}
@@ -64,6 +64,16 @@ like_put rd word other s t l e w = (
   },
   ap (λ x. add x 4) e,
 )
+
+-- what is computed of one register, or of two, behind one that is written
+like_one : (f : ℕ → ℕ) (rd a : ℕ) (s t : State) → IsLike s t → ¬ Contains (rd ∷ a ∷ []) 31
+    → f (reg s a) ≡ f (reg t a)
+like_one f rd a s t l h = ap f (like_reg a s t l (second rd a [] h))
+
+like_two : (f : ℕ → ℕ → ℕ) (rd a b : ℕ) (s t : State) → IsLike s t → ¬ Contains (rd ∷ a ∷ b ∷ []) 31
+    → f (reg s a) (reg s b) ≡ f (reg t a) (reg t b)
+like_two f rd a b s t l h =
+    ap₂ f (like_reg a s t l (second rd a (b ∷ []) h)) (like_reg b s t l (third rd a b h))
 
 like_if : (b c : Bool) (x x1 y y1 : Turn) → b ≡ c → ComeToLike x y → ComeToLike x1 y1
     → ComeToLike (if b then x else x1) (if c then y else y1)
@@ -130,7 +140,7 @@ module _ (ecall ebreak : State → Turn) where
     like_act (Auipc rd n) r h s t l e = absurd (true≢false r)
     like_act (Jal rd n) r h s t l e = absurd (true≢false r)
     like_act (Jalr rd a n) r h s t l e =
-        like_jump rd _ _ s t l e (ap (λ x. plus x n - plus x n % 2) (like_reg a s t l (second rd a [] h)))
+        like_jump rd _ _ s t l e (like_one (λ x. plus x n - plus x n % 2) rd a s t l h)
     like_act (Beq a b n) r h s t l e = absurd (true≢false r)
     like_act (Bne a b n) r h s t l e = absurd (true≢false r)
     like_act (Blt a b n) r h s t l e = absurd (true≢false r)
@@ -138,112 +148,87 @@ module _ (ecall ebreak : State → Turn) where
     like_act (Bltu a b n) r h s t l e = absurd (true≢false r)
     like_act (Bgeu a b n) r h s t l e = absurd (true≢false r)
     like_act (Lb rd a n) r h s t l e =
-        like_load true w8 rd _ _ s t l e (ap (λ x. plus x n) (like_reg a s t l (second rd a [] h)))
+        like_load true w8 rd _ _ s t l e (like_one (λ x. plus x n) rd a s t l h)
     like_act (Lh rd a n) r h s t l e =
-        like_load true w16 rd _ _ s t l e (ap (λ x. plus x n) (like_reg a s t l (second rd a [] h)))
+        like_load true w16 rd _ _ s t l e (like_one (λ x. plus x n) rd a s t l h)
     like_act (Lw rd a n) r h s t l e =
-        like_load true w32 rd _ _ s t l e (ap (λ x. plus x n) (like_reg a s t l (second rd a [] h)))
+        like_load true w32 rd _ _ s t l e (like_one (λ x. plus x n) rd a s t l h)
     like_act (Ld rd a n) r h s t l e =
-        like_load false w64 rd _ _ s t l e (ap (λ x. plus x n) (like_reg a s t l (second rd a [] h)))
+        like_load false w64 rd _ _ s t l e (like_one (λ x. plus x n) rd a s t l h)
     like_act (Lbu rd a n) r h s t l e =
-        like_load false w8 rd _ _ s t l e (ap (λ x. plus x n) (like_reg a s t l (second rd a [] h)))
+        like_load false w8 rd _ _ s t l e (like_one (λ x. plus x n) rd a s t l h)
     like_act (Lhu rd a n) r h s t l e =
-        like_load false w16 rd _ _ s t l e (ap (λ x. plus x n) (like_reg a s t l (second rd a [] h)))
+        like_load false w16 rd _ _ s t l e (like_one (λ x. plus x n) rd a s t l h)
     like_act (Lwu rd a n) r h s t l e =
-        like_load false w32 rd _ _ s t l e (ap (λ x. plus x n) (like_reg a s t l (second rd a [] h)))
+        like_load false w32 rd _ _ s t l e (like_one (λ x. plus x n) rd a s t l h)
     like_act (Sb b a n) r h s t l e =
         like_store w8 _ _ _ _ s t l e (like_reg b s t l (first b (a ∷ []) h))
-        (ap (λ x. plus x n) (like_reg a s t l (second b a [] h)))
+        (like_one (λ x. plus x n) b a s t l h)
     like_act (Sh b a n) r h s t l e =
         like_store w16 _ _ _ _ s t l e (like_reg b s t l (first b (a ∷ []) h))
-        (ap (λ x. plus x n) (like_reg a s t l (second b a [] h)))
+        (like_one (λ x. plus x n) b a s t l h)
     like_act (Sw b a n) r h s t l e =
         like_store w32 _ _ _ _ s t l e (like_reg b s t l (first b (a ∷ []) h))
-        (ap (λ x. plus x n) (like_reg a s t l (second b a [] h)))
+        (like_one (λ x. plus x n) b a s t l h)
     like_act (Sd b a n) r h s t l e =
         like_store w64 _ _ _ _ s t l e (like_reg b s t l (first b (a ∷ []) h))
-        (ap (λ x. plus x n) (like_reg a s t l (second b a [] h)))
+        (like_one (λ x. plus x n) b a s t l h)
     like_act (Addi rd a n) r h s t l e =
-        like_put rd _ _ s t l e (ap (λ x. plus x n) (like_reg a s t l (second rd a [] h)))
+        like_put rd _ _ s t l e (like_one (λ x. plus x n) rd a s t l h)
     like_act (Slti rd a n) r h s t l e =
-        like_put rd _ _ s t l e (ap (λ x. flag (int_lt (signed_of x) n)) (like_reg a s t l (second rd a [] h)))
+        like_put rd _ _ s t l e (like_one (λ x. flag (int_lt (signed_of x) n)) rd a s t l h)
     like_act (Sltiu rd a n) r h s t l e =
-        like_put rd _ _ s t l e (ap (λ x. flag (nat_lt x (word_of n))) (like_reg a s t l (second rd a [] h)))
+        like_put rd _ _ s t l e (like_one (λ x. flag (nat_lt x (word_of n))) rd a s t l h)
     like_act (Xori rd a n) r h s t l e =
-        like_put rd _ _ s t l e (ap (λ x. bit_xor x (word_of n)) (like_reg a s t l (second rd a [] h)))
+        like_put rd _ _ s t l e (like_one (λ x. bit_xor x (word_of n)) rd a s t l h)
     like_act (Ori rd a n) r h s t l e =
-        like_put rd _ _ s t l e (ap (λ x. bit_or x (word_of n)) (like_reg a s t l (second rd a [] h)))
+        like_put rd _ _ s t l e (like_one (λ x. bit_or x (word_of n)) rd a s t l h)
     like_act (Andi rd a n) r h s t l e =
-        like_put rd _ _ s t l e (ap (λ x. bit_and x (word_of n)) (like_reg a s t l (second rd a [] h)))
+        like_put rd _ _ s t l e (like_one (λ x. bit_and x (word_of n)) rd a s t l h)
     like_act (Slli rd a n) r h s t l e =
-        like_put rd _ _ s t l e (ap (λ x. shift_left x n) (like_reg a s t l (second rd a [] h)))
+        like_put rd _ _ s t l e (like_one (λ x. shift_left x n) rd a s t l h)
     like_act (Srli rd a n) r h s t l e =
-        like_put rd _ _ s t l e (ap (λ x. shift_right x n) (like_reg a s t l (second rd a [] h)))
+        like_put rd _ _ s t l e (like_one (λ x. shift_right x n) rd a s t l h)
     like_act (Srai rd a n) r h s t l e =
-        like_put rd _ _ s t l e (ap (λ x. shift_right_signed x n) (like_reg a s t l (second rd a [] h)))
+        like_put rd _ _ s t l e (like_one (λ x. shift_right_signed x n) rd a s t l h)
     like_act (Add rd a b) r h s t l e =
-        like_put rd _ _ s t l e (ap (λ x. let y = reg s b in add x y) (like_reg a s t l (second rd a (b ∷ []) h))
-        ∙ ap (λ y. let x = reg t a in add x y) (like_reg b s t l (third rd a b h)))
+        like_put rd _ _ s t l e (like_two (λ x y. add x y) rd a b s t l h)
     like_act (Sub rd a b) r h s t l e =
-        like_put rd _ _ s t l e (ap (λ x. let y = reg s b in subtract x y) (like_reg a s t l (second rd a (b ∷ []) h))
-        ∙ ap (λ y. let x = reg t a in subtract x y) (like_reg b s t l (third rd a b h)))
+        like_put rd _ _ s t l e (like_two (λ x y. subtract x y) rd a b s t l h)
     like_act (Sll rd a b) r h s t l e =
-        like_put rd _ _ s t l e (ap (λ x. let y = reg s b in
-        shift_left x (y % 64)) (like_reg a s t l (second rd a (b ∷ []) h)) ∙ ap (λ y. let x = reg t a in
-        shift_left x (y % 64)) (like_reg b s t l (third rd a b h)))
+        like_put rd _ _ s t l e (like_two (λ x y. shift_left x (y % 64)) rd a b s t l h)
     like_act (Slt rd a b) r h s t l e =
-        like_put rd _ _ s t l e (ap (λ x. let y = reg s b in
-        flag (signed_less x y)) (like_reg a s t l (second rd a (b ∷ []) h)) ∙ ap (λ y. let x = reg t a in
-        flag (signed_less x y)) (like_reg b s t l (third rd a b h)))
+        like_put rd _ _ s t l e (like_two (λ x y. flag (signed_less x y)) rd a b s t l h)
     like_act (Sltu rd a b) r h s t l e =
-        like_put rd _ _ s t l e (ap (λ x. let y = reg s b in
-        flag (nat_lt x y)) (like_reg a s t l (second rd a (b ∷ []) h)) ∙ ap (λ y. let x = reg t a in
-        flag (nat_lt x y)) (like_reg b s t l (third rd a b h)))
+        like_put rd _ _ s t l e (like_two (λ x y. flag (nat_lt x y)) rd a b s t l h)
     like_act (Xor rd a b) r h s t l e =
-        like_put rd _ _ s t l e (ap (λ x. let y = reg s b in bit_xor x y) (like_reg a s t l (second rd a (b ∷ []) h))
-        ∙ ap (λ y. let x = reg t a in bit_xor x y) (like_reg b s t l (third rd a b h)))
+        like_put rd _ _ s t l e (like_two (λ x y. bit_xor x y) rd a b s t l h)
     like_act (Srl rd a b) r h s t l e =
-        like_put rd _ _ s t l e (ap (λ x. let y = reg s b in
-        shift_right x (y % 64)) (like_reg a s t l (second rd a (b ∷ []) h)) ∙ ap (λ y. let x = reg t a in
-        shift_right x (y % 64)) (like_reg b s t l (third rd a b h)))
+        like_put rd _ _ s t l e (like_two (λ x y. shift_right x (y % 64)) rd a b s t l h)
     like_act (Sra rd a b) r h s t l e =
-        like_put rd _ _ s t l e (ap (λ x. let y = reg s b in
-        shift_right_signed x (y % 64)) (like_reg a s t l (second rd a (b ∷ []) h)) ∙ ap (λ y. let x = reg t a in
-        shift_right_signed x (y % 64)) (like_reg b s t l (third rd a b h)))
+        like_put rd _ _ s t l e (like_two (λ x y. shift_right_signed x (y % 64)) rd a b s t l h)
     like_act (Or rd a b) r h s t l e =
-        like_put rd _ _ s t l e (ap (λ x. let y = reg s b in bit_or x y) (like_reg a s t l (second rd a (b ∷ []) h))
-        ∙ ap (λ y. let x = reg t a in bit_or x y) (like_reg b s t l (third rd a b h)))
+        like_put rd _ _ s t l e (like_two (λ x y. bit_or x y) rd a b s t l h)
     like_act (And rd a b) r h s t l e =
-        like_put rd _ _ s t l e (ap (λ x. let y = reg s b in bit_and x y) (like_reg a s t l (second rd a (b ∷ []) h))
-        ∙ ap (λ y. let x = reg t a in bit_and x y) (like_reg b s t l (third rd a b h)))
+        like_put rd _ _ s t l e (like_two (λ x y. bit_and x y) rd a b s t l h)
     like_act (Addiw rd a n) r h s t l e =
-        like_put rd _ _ s t l e (ap (λ x. half (plus x n)) (like_reg a s t l (second rd a [] h)))
+        like_put rd _ _ s t l e (like_one (λ x. half (plus x n)) rd a s t l h)
     like_act (Slliw rd a n) r h s t l e =
-        like_put rd _ _ s t l e (ap (λ x. half (low_half x * 2 ^ n)) (like_reg a s t l (second rd a [] h)))
+        like_put rd _ _ s t l e (like_one (λ x. half (low_half x * 2 ^ n)) rd a s t l h)
     like_act (Srliw rd a n) r h s t l e =
-        like_put rd _ _ s t l e (ap (λ x. half (low_half x / 2 ^ n)) (like_reg a s t l (second rd a [] h)))
+        like_put rd _ _ s t l e (like_one (λ x. half (low_half x / 2 ^ n)) rd a s t l h)
     like_act (Sraiw rd a n) r h s t l e =
-        like_put rd _ _ s t l e (ap (λ x. half_right_signed x n) (like_reg a s t l (second rd a [] h)))
+        like_put rd _ _ s t l e (like_one (λ x. half_right_signed x n) rd a s t l h)
     like_act (Addw rd a b) r h s t l e =
-        like_put rd _ _ s t l e (ap (λ x. let y = reg s b in
-        half (add x y)) (like_reg a s t l (second rd a (b ∷ []) h)) ∙ ap (λ y. let x = reg t a in
-        half (add x y)) (like_reg b s t l (third rd a b h)))
+        like_put rd _ _ s t l e (like_two (λ x y. half (add x y)) rd a b s t l h)
     like_act (Subw rd a b) r h s t l e =
-        like_put rd _ _ s t l e (ap (λ x. let y = reg s b in
-        half (subtract x y)) (like_reg a s t l (second rd a (b ∷ []) h)) ∙ ap (λ y. let x = reg t a in
-        half (subtract x y)) (like_reg b s t l (third rd a b h)))
+        like_put rd _ _ s t l e (like_two (λ x y. half (subtract x y)) rd a b s t l h)
     like_act (Sllw rd a b) r h s t l e =
-        like_put rd _ _ s t l e (ap (λ x. let y = reg s b in
-        half (low_half x * 2 ^ (y % 32))) (like_reg a s t l (second rd a (b ∷ []) h)) ∙ ap (λ y. let x = reg t a in
-        half (low_half x * 2 ^ (y % 32))) (like_reg b s t l (third rd a b h)))
+        like_put rd _ _ s t l e (like_two (λ x y. half (low_half x * 2 ^ (y % 32))) rd a b s t l h)
     like_act (Srlw rd a b) r h s t l e =
-        like_put rd _ _ s t l e (ap (λ x. let y = reg s b in
-        half (low_half x / 2 ^ (y % 32))) (like_reg a s t l (second rd a (b ∷ []) h)) ∙ ap (λ y. let x = reg t a in
-        half (low_half x / 2 ^ (y % 32))) (like_reg b s t l (third rd a b h)))
+        like_put rd _ _ s t l e (like_two (λ x y. half (low_half x / 2 ^ (y % 32))) rd a b s t l h)
     like_act (Sraw rd a b) r h s t l e =
-        like_put rd _ _ s t l e (ap (λ x. let y = reg s b in
-        half_right_signed x (y % 32)) (like_reg a s t l (second rd a (b ∷ []) h)) ∙ ap (λ y. let x = reg t a in
-        half_right_signed x (y % 32)) (like_reg b s t l (third rd a b h)))
+        like_put rd _ _ s t l e (like_two (λ x y. half_right_signed x (y % 32)) rd a b s t l h)
     like_act (Fence rd a n) r h s t l e =
         (record { layout = l.layout; regs = l.regs; memory = l.memory; world = l.world }, ap (λ x. add x 4) e)
     like_act Ecall r h s t l e = ok_ecall.spares s t l e
