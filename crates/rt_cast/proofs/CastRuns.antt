@@ -3,6 +3,7 @@ use Rattle.std.proofs.Common.{true, false, ◌≡◌, inl, inr, ℕ, zero, suc, 
 use Rattle.std.proofs.Common.{List, [], ◌∷◌, ◌++◌, Option, Some, None, Bool, refl, ap, ap₂, ◌∙◌, map}
 use Rattle.std.proofs.Common.{subst, arith}
 use Rattle.std.specs.Prelude.{nat_lt, length}
+use Rattle.rt_cast.specs.Words.{kind_mask}
 use Rattle.rt_cast.specs.States.{Heap, st, Fine, Grows}
 use Rattle.grift_base.specs.Types.{TypeRow}
 use Rattle.low_ir.specs.Steps.{Locals, no_locals, set_local}
@@ -34,8 +35,6 @@ use Rattle.coercion_norm.specs.ObjectsOfRows.{header, kind_number}
 use Rattle.rt_cast.specs.WholeObjects.{IsSolid, WholeProxy}
 use Rattle.rt_cast.specs.Procs.{coerce_proc, compose_proc, cast_proc}
 use Rattle.rt_cast.specs.PartCodes.{either}
-use Rattle.rt_cast.specs.PartCodes.{proc}
-use Rattle.rt_cast.specs.ComposeCodes.{compose_code}
 use Rattle.rt_cast.proofs.HeaderNumbers.{eq_true, eq_false, eq_cases, kind_read}
 use Rattle.rt_cast.proofs.Steps.{Budget, End, Out, Pay, More, return_price, at_most, WordThere, loads}
 use Rattle.rt_cast.proofs.Steps.{computes, if_true, if_false, builds, calls, tail_calls, comes_back, header_there}
@@ -221,6 +220,14 @@ module _ {V : Type 0} (walk : Walk V) (low : walk.l.tallest ≤ 65534) (A : Type
       → GoesOn B objects waiting r → Reached (More cost above asks price B) (state 10 (bind 0 (wv ∷ wc ∷ []) no_locals)
       (cast_code walk.first) [] waiting h)
 
+  -- within greater bounds
+  casts_more : {cost above asks price cost' above' asks' price' : ℕ} (c : Coercion) (u : Merged A) (r : Outcome A)
+      → CastDoes cost above asks price c u r → cost ≤ cost' → above ≤ above' → asks ≤ asks' → price ≤ price'
+      → CastDoes cost' above' asks' price' c u r
+  casts_more c u r does longer deeper more dearer B objects h fine waiting wv wc hv hc go =
+      at_most walk (does B objects h fine waiting wv wc hv hc go)
+      (omega (arith, longer), omega (arith, deeper), omega (arith, more), omega (arith, dearer))
+
   abbrev cast_read : ℕ → ℕ → ℕ → ℕ → Locals
   cast_read wv wc head k = set_local 3 k (set_local 2 head (bind 0 (wv ∷ wc ∷ []) no_locals))
 
@@ -236,7 +243,7 @@ module _ {V : Type 0} (walk : Walk V) (low : walk.l.tallest ≤ 65534) (A : Type
       at_most walk
       (if_false walk objects fine wc 0 refl refl (eq_false wc 0 (λ e. omega (arith, z.0)))
       (loads walk objects fine wc (header k y m) ws 0 (header k y m) refl there refl refl refl
-      (computes walk objects fine (header k y m) 255 k refl refl (kind_read k y m lt) refl (go _))))
+      (computes walk objects fine (header k y m) kind_mask k refl refl (kind_read k y m lt) refl (go _))))
       (omega arith, omega arith, omega arith, omega arith)
 
   abbrev plain_cost : ℕ
@@ -284,16 +291,10 @@ module _ {V : Type 0} (walk : Walk V) (low : walk.l.tallest ≤ 65534) (A : Type
   more_final : (c : Coercion) (u : Merged A) (r : Outcome A)
       → CastDoes final_cost whole_above final_words final_price c u r
       → CastDoes whole_cost whole_above whole_words whole_price c u r
-  more_final c u r does B objects h fine waiting wv wc hv hc go =
-      at_most walk (does B objects h fine waiting wv wc hv hc go) (
-        omega arith,
-        omega arith,
-        (let z = words_are walk n in omega (arith, z)),
-        let z = price_is walk n in omega
-            (arith, z),
-      )
+  more_final c u r does =
+      casts_more c u r does (omega arith) (omega arith) (let z = words_are walk n in omega (arith, z))
+      (let z = price_is walk n in omega (arith, z))
 
-  -- Id and Fail
   id_at : (u : Merged A) → CastDoes 1 0 0 20 Id u (GivesValue u)
   id_at u B objects h fine waiting wv wc hv hc go =
       at_most walk
@@ -378,7 +379,7 @@ module _ {V : Type 0} (walk : Walk V) (low : walk.l.tallest ≤ 65534) (A : Type
       (loads_at walk objects fine wv (header (number_of s.kind) 0 s.count) refl (subst (λ x. WordThere walk h (wv + 0)
       x)
       s.head (subst (λ m. WordThere walk h m (header_of s.object)) (zero_more wv) z)) refl
-      (computes walk objects fine (header (number_of s.kind) 0 s.count) 255 (number_of s.kind) refl refl
+      (computes walk objects fine (header (number_of s.kind) 0 s.count) kind_mask (number_of s.kind) refl refl
       (kind_read (number_of s.kind) 0
       s.count (small_kind s.kind)) refl
       (if_false walk objects fine (number_of s.kind) 2 refl refl (free_no_proxy s.kind s.free)
@@ -421,7 +422,7 @@ module _ {V : Type 0} (walk : Walk V) (low : walk.l.tallest ≤ 65534) (A : Type
           (if_false walk objects fine (kind_number kind) 13 refl refl (no_middle kind 13 (inr (omega arith)))
           (if_false walk objects fine (kind_number kind) 14 refl refl (no_middle kind 14 (inr (omega arith)))
           (loads walk objects fine wv proxy_header (hv.0 ∷ hv.1 ∷ []) 0 proxy_header refl hv.2 refl refl refl
-          (computes walk objects fine proxy_header 255 2 refl refl (kind_read 2 0 2 (omega arith)) refl
+          (computes walk objects fine proxy_header kind_mask 2 refl refl (kind_read 2 0 2 (omega arith)) refl
           (if_true walk objects fine 2 2 refl refl refl
           (loads walk objects fine wv proxy_header (hv.0 ∷ hv.1 ∷ []) 2 hv.1 refl hv.2 refl refl refl
           (calls walk objects fine (hv.1 ∷ wc ∷ []) (compose_proc walk.first) refl
@@ -605,7 +606,7 @@ module _ {V : Type 0} (walk : Walk V) (low : walk.l.tallest ≤ 65534) (A : Type
                 (loads walk objects fine wc (project_header y1) ws 1 hc.0 l1 hc.2 refl refl refl
                 (loads walk objects fine hc.0 head (map walk.l.type_at (parts_of (R wanted))) 0 head refl
                 (type_there walk objects hc.0 wanted hc.3) refl refl refl
-                (computes walk objects fine head 255 (type_kind (R wanted)) refl refl
+                (computes walk objects fine head kind_mask (type_kind (R wanted)) refl refl
                 (kind_read (type_kind (R wanted)) (height_in walk.l wanted) (length (parts_of (R wanted)))
                 (type_numbers (R wanted))) refl
                 (computes walk objects fine s.tag 15 (s.tag + 15) l4 refl (let f = s.few in omega (arith, f)) refl
@@ -732,15 +733,7 @@ module _ {V : Type 0} (walk : Walk V) (low : walk.l.tallest ≤ 65534) (A : Type
 
   -- Id and Fail, before Dyn or not
   light_plain : (c : Coercion) → is_simple c ≡ true → (u : Merged A) → CastDoes 5 0 0 39 c u (apply_plain R n c u)
-  light_plain Id e u =
-      λ B objects h fine waiting wv wc hv hc go.
-      at_most walk (id_at u B objects h fine waiting wv wc hv hc go) (
-        omega arith,
-        omega arith,
-        omega arith,
-        omega
-            arith,
-      )
+  light_plain Id e u = casts_more Id u (GivesValue u) (id_at u) (omega arith) (omega arith) (omega arith) (omega arith)
   light_plain (Fail label) e u = fail_at label u
   light_plain (Middle kind cs) e u = absurd (no_true e)
   light_plain (Inject g kept) e u = absurd (no_true e)
@@ -749,18 +742,9 @@ module _ {V : Type 0} (walk : Walk V) (low : walk.l.tallest ≤ 65534) (A : Type
   light_final : (c : Coercion) → IsNormal R c → NoHigher R c n → ends_simply c ≡ true → (u : Merged A)
       → CastDoes 29 1 3 221 c u (apply_final R n c u)
   light_final Id nc lc e u =
-      λ B objects h fine waiting wv wc hv hc go.
-      at_most walk (id_at u B objects h fine waiting wv wc hv hc go) (
-        omega arith,
-        omega arith,
-        omega arith,
-        omega
-            arith,
-      )
+      casts_more Id u (GivesValue u) (id_at u) (omega arith) (omega arith) (omega arith) (omega arith)
   light_final (Fail label) nc lc e u =
-      λ B objects h fine waiting wv wc hv hc go.
-      at_most walk (fail_at label u B objects h fine waiting wv wc hv hc go)
-      (omega arith, omega arith, omega arith, omega arith)
+      casts_more (Fail label) u (Blames label) (fail_at label u) (omega arith) (omega arith) (omega arith) (omega arith)
   light_final (Middle kind cs) nc lc e u = absurd (no_true e)
   light_final (Inject g kept) nc lc e u = inject_by 5 0 0 39 g kept nc lc u (light_plain g e u)
   light_final (Project wanted label i) nc lc e u = absurd (no_true e)
@@ -836,23 +820,13 @@ module _ {V : Type 0} (walk : Walk V) (low : walk.l.tallest ≤ 65534) (A : Type
   pub by_light : (c : Coercion) → IsNormal R c → NoHigher R c n → (u : Merged A) → is_light R c u ≡ true
       → CastDoes 77 1 (light_words c) (light_price c) c u (apply R n c u)
   by_light Id nc lc u e =
-      λ B objects h fine waiting wv wc hv hc go.
-      at_most walk (id_at u B objects h fine waiting wv wc hv hc go) (
-        omega arith,
-        omega arith,
-        omega arith,
-        omega
-            arith,
-      )
+      casts_more Id u (GivesValue u) (id_at u) (omega arith) (omega arith) (omega arith) (omega arith)
   by_light (Fail label) nc lc u e =
-      λ B objects h fine waiting wv wc hv hc go.
-      at_most walk (fail_at label u B objects h fine waiting wv wc hv hc go)
-      (omega arith, omega arith, omega arith, omega arith)
+      casts_more (Fail label) u (Blames label) (fail_at label u) (omega arith) (omega arith) (omega arith) (omega arith)
   by_light (Middle kind cs) nc lc u e = absurd (no_true e)
   by_light (Inject g kept) nc lc u e =
-      λ B objects h fine waiting wv wc hv hc go.
-      at_most walk (light_final (Inject g kept) nc lc e u B objects h fine waiting wv wc hv hc go)
-      (omega arith, omega arith, omega arith, omega arith)
+      casts_more (Inject g kept) u (apply R n (Inject g kept) u) (light_final (Inject g kept) nc lc e u) (omega arith)
+      (omega arith) (omega arith) (omega arith)
   by_light (Project wanted label i) nc lc (Base head x) e = absurd (no_true e)
   by_light (Project wanted label i) nc lc (Solid a) e = absurd (no_true e)
   by_light (Project wanted label i) nc lc (Proxied a d) e = absurd (no_true e)
@@ -866,25 +840,19 @@ module _ {V : Type 0} (walk : Walk V) (low : walk.l.tallest ≤ 65534) (A : Type
       by : (b : Bool) → is_light R c u ≡ b
           → CastDoes whole_cost whole_above (if b then light_words c else cast_words walk.l.width n)
           (if b then light_price c else cast_price walk.l.width n) c u (apply R n c u)
-      by true e = λ B objects h fine waiting wv wc hv hc go.
-          at_most walk (by_light c nc lc u e B objects h fine waiting wv wc hv hc go)
-          ((let z = steps_are walk n in omega (arith, z)), omega arith, omega arith, omega arith)
+      by true e =
+          casts_more c u (apply R n c u) (by_light c nc lc u e) (let z = steps_are walk n in omega (arith, z))
+          (omega arith) (omega arith)
+          (omega arith)
       by false e = by_cast c nc lc u
 
 -- a light cast asks for no more than any cast may, and costs no more
-light_words_low : (c : Coercion) → light_words c ≤ 5
-light_words_low Id = omega arith
-light_words_low (Fail label) = omega arith
-light_words_low (Middle kind cs) = omega arith
-light_words_low (Inject g kept) = omega arith
-light_words_low (Project wanted label i) = omega arith
-
-light_price_low : (c : Coercion) → light_price c ≤ 620
-light_price_low Id = omega arith
-light_price_low (Fail label) = omega arith
-light_price_low (Middle kind cs) = omega arith
-light_price_low (Inject g kept) = omega arith
-light_price_low (Project wanted label i) = omega arith
+light_low : (c : Coercion) → (light_words c ≤ 5) × (light_price c ≤ 620)
+light_low Id = (omega arith, omega arith)
+light_low (Fail label) = (omega arith, omega arith)
+light_low (Middle kind cs) = (omega arith, omega arith)
+light_low (Inject g kept) = (omega arith, omega arith)
+light_low (Project wanted label i) = (omega arith, omega arith)
 
 cast_words_some : (w n : ℕ) → 5 ≤ cast_words w n
 cast_words_some w zero = omega arith
@@ -899,7 +867,7 @@ pub words_within : {A : Type 0} (l : Layout) (c : Coercion) (u : Merged A)
 words_within l c u = by (is_light (rows_in l) c u)
   where
     by : (b : Bool) → (if b then light_words c else cast_words l.width l.tallest) ≤ cast_words l.width l.tallest
-    by true = let a = light_words_low c in let b = cast_words_some l.width l.tallest in omega (arith, a, b)
+    by true = let a = (light_low c).0 in let b = cast_words_some l.width l.tallest in omega (arith, a, b)
     by false = omega arith
 
 pub price_within : {A : Type 0} (l : Layout) (c : Coercion) (u : Merged A)
@@ -907,5 +875,5 @@ pub price_within : {A : Type 0} (l : Layout) (c : Coercion) (u : Merged A)
 price_within l c u = by (is_light (rows_in l) c u)
   where
     by : (b : Bool) → (if b then light_price c else cast_price l.width l.tallest) ≤ cast_price l.width l.tallest
-    by true = let a = light_price_low c in let b = cast_price_some l.width l.tallest in omega (arith, a, b)
+    by true = let a = (light_low c).1 in let b = cast_price_some l.width l.tallest in omega (arith, a, b)
     by false = omega arith

@@ -4,6 +4,7 @@ use Rattle.std.proofs.Common.{false, cond, List, [], ◌∷◌, ◌++◌, map, S
 use Rattle.std.proofs.Common.{subst, arith, length-append, eq-eqb, nat_eq}
 use Rattle.std.specs.Prelude.{◌==◌, ◌&&◌, slice_get, length, max, All}
 use Rattle.std.specs.Prelude.{slice_index}
+use Rattle.rt_cast.specs.Words.{kind_mask}
 use Rattle.rt_cast.specs.States.{Heap, st, Fine}
 use Rattle.grift_base.specs.Types.{TypeRow, IntRow, BoolRow, UnitRow, DynRow, FunRow, TupleRow, RefRow, VectRow}
 use Rattle.grift_base.specs.Types.{is_dyn, parts_of, same_head}
@@ -36,7 +37,7 @@ use Rattle.coercion_norm.specs.ObjectsOfRows.{header, kind_number, type_kind}
 use Rattle.coercion_norm.specs.Held.{rows_in, height_in}
 use Rattle.rt_cast.specs.WholeObjects.{IdWord, WholeFail, WholeInject, WholeProject}
 use Rattle.rt_cast.specs.Procs.{middle_proc}
-use Rattle.rt_cast.specs.PartCodes.{middle_code, raise_code, either}
+use Rattle.rt_cast.specs.PartCodes.{middle_code, either}
 use Rattle.rt_cast.specs.PartCodes.{part_code, proc, each_word, first_word}
 use Rattle.rt_cast.specs.ComposeCodes.{raise}
 use Rattle.rt_cast.specs.ComposeCodes.{coerce, coerce_part, coerce_of}
@@ -68,79 +69,25 @@ long_fun ps qs a b = let x = length-append ps (a ∷ []) in let y = length-appen
 heads_are : (row other : TypeRow) → same_head row other ≡ ((type_kind row == type_kind other) && (length (parts_of row)
     == length (parts_of other)))
 heads_are IntRow IntRow = refl
-heads_are IntRow BoolRow = refl
-heads_are IntRow UnitRow = refl
-heads_are IntRow DynRow = refl
-heads_are IntRow (FunRow qs b) = refl
-heads_are IntRow (TupleRow qs) = refl
-heads_are IntRow (RefRow d) = refl
-heads_are IntRow (VectRow d) = refl
-heads_are BoolRow IntRow = refl
+heads_are IntRow _ = refl
 heads_are BoolRow BoolRow = refl
-heads_are BoolRow UnitRow = refl
-heads_are BoolRow DynRow = refl
-heads_are BoolRow (FunRow qs b) = refl
-heads_are BoolRow (TupleRow qs) = refl
-heads_are BoolRow (RefRow d) = refl
-heads_are BoolRow (VectRow d) = refl
-heads_are UnitRow IntRow = refl
-heads_are UnitRow BoolRow = refl
+heads_are BoolRow _ = refl
 heads_are UnitRow UnitRow = refl
-heads_are UnitRow DynRow = refl
-heads_are UnitRow (FunRow qs b) = refl
-heads_are UnitRow (TupleRow qs) = refl
-heads_are UnitRow (RefRow d) = refl
-heads_are UnitRow (VectRow d) = refl
-heads_are DynRow IntRow = refl
-heads_are DynRow BoolRow = refl
-heads_are DynRow UnitRow = refl
+heads_are UnitRow _ = refl
 heads_are DynRow DynRow = refl
-heads_are DynRow (FunRow qs b) = refl
-heads_are DynRow (TupleRow qs) = refl
-heads_are DynRow (RefRow d) = refl
-heads_are DynRow (VectRow d) = refl
-heads_are (FunRow ps a) IntRow = refl
-heads_are (FunRow ps a) BoolRow = refl
-heads_are (FunRow ps a) UnitRow = refl
-heads_are (FunRow ps a) DynRow = refl
+heads_are DynRow _ = refl
 heads_are (FunRow ps a) (FunRow qs b) = long_fun ps qs a b
-heads_are (FunRow ps a) (TupleRow qs) = refl
-heads_are (FunRow ps a) (RefRow d) = refl
-heads_are (FunRow ps a) (VectRow d) = refl
-heads_are (TupleRow ps) IntRow = refl
-heads_are (TupleRow ps) BoolRow = refl
-heads_are (TupleRow ps) UnitRow = refl
-heads_are (TupleRow ps) DynRow = refl
-heads_are (TupleRow ps) (FunRow qs b) = refl
+heads_are (FunRow ps a) _ = refl
 heads_are (TupleRow ps) (TupleRow qs) = refl
-heads_are (TupleRow ps) (RefRow d) = refl
-heads_are (TupleRow ps) (VectRow d) = refl
-heads_are (RefRow c) IntRow = refl
-heads_are (RefRow c) BoolRow = refl
-heads_are (RefRow c) UnitRow = refl
-heads_are (RefRow c) DynRow = refl
-heads_are (RefRow c) (FunRow qs b) = refl
-heads_are (RefRow c) (TupleRow qs) = refl
+heads_are (TupleRow ps) _ = refl
 heads_are (RefRow c) (RefRow d) = refl
-heads_are (RefRow c) (VectRow d) = refl
-heads_are (VectRow c) IntRow = refl
-heads_are (VectRow c) BoolRow = refl
-heads_are (VectRow c) UnitRow = refl
-heads_are (VectRow c) DynRow = refl
-heads_are (VectRow c) (FunRow qs b) = refl
-heads_are (VectRow c) (TupleRow qs) = refl
-heads_are (VectRow c) (RefRow d) = refl
+heads_are (RefRow c) _ = refl
 heads_are (VectRow c) (VectRow d) = refl
+heads_are (VectRow c) _ = refl
 
 dyn_is : (row : TypeRow) → (type_kind row == 19) ≡ is_dyn row
-dyn_is IntRow = refl
-dyn_is BoolRow = refl
-dyn_is UnitRow = refl
 dyn_is DynRow = refl
-dyn_is (FunRow ps a) = refl
-dyn_is (TupleRow ps) = refl
-dyn_is (RefRow c) = refl
-dyn_is (VectRow c) = refl
+dyn_is _ = refl
 
 all_at_place : (P : ℕ → Type 0) (xs : List ℕ) → All P xs → (k : ℕ) → k < length xs → P (slice_index xs k)
 all_at_place P xs h k lt = All-get_or P xs k 0 lt h
@@ -510,16 +457,20 @@ module _ {V : Type 0} (walk : Walk V) where
       (Fixed 4294967304 (label ∷ []))) fine' (added walk objects h fine (Fixed 4294967304 (label ∷ []))) refl))
       (omega arith, omega arith, omega arith, omega arith)
 
-  -- neither type is Dyn
-  solid : {B : Budget} → (n : ℕ) → n ≤ 65534 → BelowC n → (from to label : ℕ) → label < 2 ^ 64 → TypeNoHigher R n from
-      → TypeNoHigher R n to → nat_eq from to ≡ false
-      → (objects : List Object) (h : Heap) (fine : Fine walk.setting walk.l walk.around objects h) (waiting : List
-      Waiting) (wf wt : ℕ) → HoldsType walk.l objects wf from → HoldsType walk.l objects wt to → Answers walk B
-      objects waiting (coerce_solid R (coerce_below R n) from to label) → (rests : List Code)
-      → Reached (More (26 + all_cost n) (suc n) (max 4 (all_words n)) (229 + all_price n) B) (state 11
-      (kinds_read wf wt label from to) (coerce_heads walk.first)
-      rests waiting h)
-  solid {B = B} n le below from to label small lf lt differ objects h fine waiting wf wt hf ht go rests =
+  -- the numbers of parts are read, and compared behind the kinds: where the types aren't alike, the cast fails
+  compared : {B : Budget} {steps frames words price : ℕ} → 1 ≤ steps → 2 ≤ words → 42 ≤ price → (n from to label : ℕ)
+      → label < 2 ^ 64 → nat_eq from to ≡ false → (objects : List Object) (h : Heap)
+      (fine : Fine walk.setting walk.l walk.around objects h) (waiting : List Waiting) (wf wt : ℕ)
+      → ((type_kind (R from) == type_kind (R to)) ≡ true
+      → (length (parts_of (R from)) == length (parts_of (R to))) ≡ true → (rests : List Code)
+      → Answers walk B objects waiting (coerce_middle R (coerce_below R n) (kind_of (R from)) from to label)
+      → Reached (More steps frames words price B)
+      (state 11 (heads_read wf wt label from to) (coerce_alike walk.first) rests waiting h))
+      → Answers walk B objects waiting (coerce_solid R (coerce_below R n) from to label) → (rests : List Code)
+      → Reached (More (4 + steps) frames words (36 + price) B)
+      (state 11 (kinds_read wf wt label from to) (coerce_heads walk.first) rests waiting h)
+  compared {B = B} {steps = steps} {frames = frames} {words = words} {price = price} some two dear n from to label small
+      differ objects h fine waiting wf wt alike go rests =
       let low1 = walk.types.low from in
       let low2 = walk.types.low to in
       let go' = subst (λ b. Answers walk B objects waiting (cond b Id (cond (same_head (R from) (R to)) (coerce_middle R
@@ -542,28 +493,43 @@ module _ {V : Type 0} (walk : Walk V) where
       by : (b : Bool) → (type_kind (R from) == type_kind (R to)) ≡ b → (c : Bool) → (length (parts_of (R from)) ==
           length (parts_of (R to))) ≡ c → (rests : List Code) → Answers walk B objects waiting (cond (b && c)
           (coerce_middle R (coerce_below R n) (kind_of (R from)) from to label) (Fail label))
-          → Reached (More (24 + all_cost n) (suc n) (max 4 (all_words n)) (219 + all_price n) B) (state 11 L (either Eq
-          (Word 4) (Word 6) (either Eq (Word 7)
-          (Word 8)
-          (coerce_alike walk.first) coerce_fail) coerce_fail) rests waiting h)
+          → Reached (More (2 + steps) frames words (26 + price) B) (state 11 L (either Eq (Word 4) (Word 6)
+          (either Eq (Word 7) (Word 8) (coerce_alike walk.first) coerce_fail) coerce_fail) rests waiting h)
       by false e c f rests go =
           at_most walk
           (if_false walk objects fine (type_kind (R from)) (type_kind (R to)) refl refl e
           (fail_built label small objects h fine waiting L _ refl go))
-          (omega arith, omega arith, omega arith, omega arith)
+          (omega (arith, some), omega arith, omega (arith, two), omega (arith, dear))
       by true e false f rests go =
           at_most walk
           (if_true walk objects fine (type_kind (R from)) (type_kind (R to)) refl refl e
           (if_false walk objects fine (length (parts_of (R from))) (length (parts_of (R to))) refl refl f
           (fail_built label small objects h fine waiting L _ refl go)))
-          (omega arith, omega arith, omega arith, omega arith)
+          (omega (arith, some), omega arith, omega (arith, two), omega (arith, dear))
       by true e true f rests go =
           at_most walk
           (if_true walk objects fine (type_kind (R from)) (type_kind (R to)) refl refl e
           (if_true walk objects fine (length (parts_of (R from))) (length (parts_of (R to))) refl refl f
-          (alike n le below from to label small lf lt (grind (arith, e)) (grind (arith, f)) objects h fine waiting wf wt
-          hf ht go _)))
+          (alike e f _ go)))
           (omega arith, omega arith, omega arith, omega arith)
+
+  -- neither type is Dyn
+  solid : {B : Budget} → (n : ℕ) → n ≤ 65534 → BelowC n → (from to label : ℕ) → label < 2 ^ 64 → TypeNoHigher R n from
+      → TypeNoHigher R n to → nat_eq from to ≡ false
+      → (objects : List Object) (h : Heap) (fine : Fine walk.setting walk.l walk.around objects h) (waiting : List
+      Waiting) (wf wt : ℕ) → HoldsType walk.l objects wf from → HoldsType walk.l objects wt to → Answers walk B
+      objects waiting (coerce_solid R (coerce_below R n) from to label) → (rests : List Code)
+      → Reached (More (26 + all_cost n) (suc n) (max 4 (all_words n)) (229 + all_price n) B) (state 11
+      (kinds_read wf wt label from to) (coerce_heads walk.first)
+      rests waiting h)
+  solid n le below from to label small lf lt differ objects h fine waiting wf wt hf ht go rests =
+      at_most walk
+      (compared {steps = 22 + all_cost n} {frames = suc n} {words = max 4 (all_words n)} {price = 193 + all_price n}
+      (omega arith) (omega arith) (omega arith) n from to label small differ objects h fine waiting wf wt
+      (λ e f rests go. at_most walk
+      (alike n le below from to label small lf lt (grind (arith, e)) (grind (arith, f)) objects h fine waiting wf wt
+      hf ht go rests) (omega arith, omega arith, omega arith, omega arith)) go rests)
+      (omega arith, omega arith, omega arith, omega arith)
 
   -- from Dyn
   projected : {B : Budget} → (to label : ℕ) → label < 2 ^ 64 → (objects : List Object) (h : Heap)
@@ -644,6 +610,29 @@ module _ {V : Type 0} (walk : Walk V) where
       ) refl)))))))))
       (omega arith, omega arith, omega arith, omega arith)
 
+  -- types that are not the same: their kinds are read
+  kinds : {B : Budget} {from to : ℕ} → (from == to) ≡ false → (objects : List Object) (h : Heap)
+      (fine : Fine walk.setting walk.l walk.around objects h) (waiting : List Waiting) (label wf wt : ℕ)
+      → HoldsType walk.l objects wf from → HoldsType walk.l objects wt to
+      → ((rests : List Code)
+      → Reached B (state 11 (kinds_read wf wt label from to) (coerce_kinds walk.first) rests waiting h))
+      → Reached (More 5 0 0 29 B)
+      (state 11 (bind 0 (wf ∷ wt ∷ label ∷ []) no_locals) (coerce_code walk.first) [] waiting h)
+  kinds {from = from} {to = to} differ objects h fine waiting label wf wt hf ht go =
+      let apart : wf ≡ wt → ⊥ = λ q. let z = walk.types.once from to hf.known ht.known (sym hf.is ∙ (q ∙ ht.is)) in
+      grind (arith, z, differ) in
+      at_most walk
+      (if_false walk objects fine wf wt refl refl (eq_false wf wt apart)
+      (loads walk objects fine wf (type_header from) (type_words from) 0 (type_header from) refl
+      (type_there walk objects wf from hf) refl refl refl
+      (computes walk objects fine (type_header from) kind_mask (type_kind (R from)) refl refl
+      (kind_read (type_kind (R from)) (tall from) (length (parts_of (R from))) (type_numbers (R from))) refl
+      (loads walk objects fine wt (type_header to) (type_words to) 0 (type_header to) refl
+      (type_there walk objects wt to ht) refl refl refl
+      (computes walk objects fine (type_header to) kind_mask (type_kind (R to)) refl refl
+      (kind_read (type_kind (R to)) (tall to) (length (parts_of (R to))) (type_numbers (R to))) refl (go _))))))
+      (omega arith, omega arith, omega arith, omega arith)
+
   -- the same type
   same_is_id : (n from to label : ℕ) → from ≡ to → coerce_to R n from to label ≡ Id
   same_is_id n from to label e = by (is_dyn (R from)) (is_dyn (R to)) (ap (λ t. is_dyn (R t)) e)
@@ -716,19 +705,9 @@ module _ {V : Type 0} (walk : Walk V) where
             (let z = enough_price n in omega (arith, z)),
           )
       by_same (inr differ) =
-          let apart : wf ≡ wt → ⊥ = λ q. let z = walk.types.once from to hf.known ht.known (sym hf.is ∙ (q ∙ ht.is)) in
-          grind (arith, z, differ) in
           at_most walk
-          (if_false walk objects fine wf wt refl refl (eq_false wf wt apart)
-          (loads walk objects fine wf (type_header from) (type_words from) 0 (type_header from) refl (type_there walk
-          objects wf from hf) refl refl refl
-          (computes walk objects fine (type_header from) 255 (type_kind (R from)) refl refl
-          (kind_read (type_kind (R from)) (tall from) (length (parts_of (R from))) (type_numbers (R from))) refl
-          (loads walk objects fine wt (type_header to) (type_words to) 0 (type_header to) refl (type_there walk objects
-          wt to ht) refl refl refl
-          (computes walk objects fine (type_header to) 255 (type_kind (R to)) refl refl (kind_read (type_kind (R to))
-          (tall to) (length (parts_of (R to))) (type_numbers (R to))) refl
-          (by_dyn differ (is_dyn (R from)) refl (is_dyn (R to)) refl _ go)))))) (
+          (kinds differ objects h fine waiting label wf wt hf ht
+          (λ rests. by_dyn differ (is_dyn (R from)) refl (is_dyn (R to)) refl rests go)) (
             (let z = enough_cost n in omega arith),
             omega arith,
             (let z = enough_words n in omega (arith, z)),
@@ -747,22 +726,10 @@ module _ {V : Type 0} (walk : Walk V) where
       → Answers walk B objects waiting (coerce_solid R (coerce_below R n) from to label) → (rests : List Code)
       → Reached (More 6 0 2 78 B) (state 11 (kinds_read wf wt label from to) (coerce_heads walk.first) rests waiting h)
   light_heads {B = B} n from to label small differ apart objects h fine waiting wf wt go rests =
-      let low1 = walk.types.low from in
-      let low2 = walk.types.low to in
-      let go' = subst (λ b. Answers walk B objects waiting (cond b Id (cond (same_head (R from) (R to)) (coerce_middle R
-      (coerce_below R n) (kind_of (R from)) from to label) (Fail label)))) differ go in
-      at_most walk
-      (computes walk objects fine (type_header from) 32 (length (parts_of (R from))) refl refl
-      (count_read (type_kind (R from)) (tall from) (length (parts_of (R from))) (let z = type_numbers (R from) in
-      omega arith) (omega (arith, low1))) refl
-      (computes walk objects fine (type_header to) 32 (length (parts_of (R to))) refl refl
-      (count_read (type_kind (R to)) (tall to) (length (parts_of (R to))) (let z = type_numbers (R to) in omega
-      arith) (omega (arith, low2))) refl
-      (by (type_kind (R from) == type_kind (R to)) refl (length (parts_of (R from)) == length (parts_of (R to))) refl
-      (subst (λ b. (not b || has_none (kind_of (R from))) ≡ true) (heads_are (R from) (R to)) apart) _
-      (subst (λ b. Answers walk B objects waiting (cond b (coerce_middle R (coerce_below R n) (kind_of (R from))
-      from to label) (Fail label))) (heads_are (R from) (R to)) go'))))
-      (omega arith, omega arith, omega arith, omega arith)
+      compared {steps = 2} {frames = 0} {words = 2} {price = 42} (omega arith) (omega arith) (omega arith) n from to
+      label small differ objects h fine waiting wf wt
+      (λ e f rests go. at_most walk (plain (sort (R from)) (no_middle e f) rests go)
+      (omega arith, omega arith, omega arith, omega arith)) go rests
     where
       L : Locals
       L = heads_read wf wt label from to
@@ -790,29 +757,11 @@ module _ {V : Type 0} (walk : Walk V) where
           untrue : false ≡ true → ⊥
           untrue q = cc
 
-      by : (b : Bool) → (type_kind (R from) == type_kind (R to)) ≡ b → (c : Bool) → (length (parts_of (R from)) ==
-          length (parts_of (R to))) ≡ c → (not (b && c) || has_none (kind_of (R from))) ≡ true → (rests : List Code)
-          → Answers walk B objects waiting (cond (b && c)
-          (coerce_middle R (coerce_below R n) (kind_of (R from)) from to label) (Fail label))
-          → Reached (More 4 0 2 68 B) (state 11 L (either Eq (Word 4) (Word 6) (either Eq (Word 7) (Word 8)
-          (coerce_alike walk.first) coerce_fail) coerce_fail) rests waiting h)
-      by false e c f q rests go =
-          at_most walk
-          (if_false walk objects fine (type_kind (R from)) (type_kind (R to)) refl refl e
-          (fail_built label small objects h fine waiting L _ refl go))
-          (omega arith, omega arith, omega arith, omega arith)
-      by true e false f q rests go =
-          at_most walk
-          (if_true walk objects fine (type_kind (R from)) (type_kind (R to)) refl refl e
-          (if_false walk objects fine (length (parts_of (R from))) (length (parts_of (R to))) refl refl f
-          (fail_built label small objects h fine waiting L _ refl go)))
-          (omega arith, omega arith, omega arith, omega arith)
-      by true e true f q rests go =
-          at_most walk
-          (if_true walk objects fine (type_kind (R from)) (type_kind (R to)) refl refl e
-          (if_true walk objects fine (length (parts_of (R from))) (length (parts_of (R to))) refl refl f
-          (plain (sort (R from)) q _ go)))
-          (omega arith, omega arith, omega arith, omega arith)
+      no_middle : (type_kind (R from) == type_kind (R to)) ≡ true
+          → (length (parts_of (R from)) == length (parts_of (R to))) ≡ true → has_none (kind_of (R from)) ≡ true
+      no_middle e f =
+          subst (λ b. (not b || has_none (kind_of (R from))) ≡ true)
+          (heads_are (R from) (R to) ∙ ap₂ (λ b c. b && c) e f) apart
 
   pub light_cast : (n from to label : ℕ) → is_dyn (R from) ≡ false → is_dyn (R to) ≡ false
       → has_no_middle (R from) (R to) ≡ true
@@ -831,20 +780,10 @@ module _ {V : Type 0} (walk : Walk V) where
           (sym (same_is_id n from to label e)) refl) refl))
           (omega arith, omega arith, omega arith, omega arith)
       by_same (inr differ) =
-          let apart' : wf ≡ wt → ⊥ = λ q. let z = walk.types.once from to hf.known ht.known (sym hf.is ∙ (q ∙ ht.is))
-          in grind (arith, z, differ) in
           at_most walk
-          (if_false walk objects fine wf wt refl refl (eq_false wf wt apart')
-          (loads walk objects fine wf (type_header from) (type_words from) 0 (type_header from) refl (type_there walk
-          objects wf from hf) refl refl refl
-          (computes walk objects fine (type_header from) 255 (type_kind (R from)) refl refl
-          (kind_read (type_kind (R from)) (tall from) (length (parts_of (R from))) (type_numbers (R from))) refl
-          (loads walk objects fine wt (type_header to) (type_words to) 0 (type_header to) refl (type_there walk objects
-          wt to ht) refl refl refl
-          (computes walk objects fine (type_header to) 255 (type_kind (R to)) refl refl (kind_read (type_kind (R to))
-          (tall to) (length (parts_of (R to))) (type_numbers (R to))) refl
-          (if_false walk objects fine (type_kind (R from)) 19 refl refl (dyn_is (R from) ∙ d1)
+          (kinds differ objects h fine waiting label wf wt hf ht
+          (λ rests. if_false walk objects fine (type_kind (R from)) 19 refl refl (dyn_is (R from) ∙ d1)
           (if_false walk objects fine (type_kind (R to)) 19 refl refl (dyn_is (R to) ∙ d2)
           (light_heads n from to label small differ apart objects h fine waiting wf wt
-          (subst (Answers walk B objects waiting) solid go) _))))))))
+          (subst (Answers walk B objects waiting) solid go) _))))
           (omega arith, omega arith, omega arith, omega arith)

@@ -3,6 +3,7 @@ use Rattle.std.proofs.Common.{◌≡◌, ◌⊎◌, inl, inr, ℕ, zero, suc, �
 use Rattle.std.proofs.Common.{false, cond, List, [], ◌∷◌, ◌++◌, map, Some, refl, sym, ap, ◌∙◌}
 use Rattle.std.proofs.Common.{subst, arith}
 use Rattle.std.specs.Prelude.{◌==◌, slice_get, length, max, min}
+use Rattle.rt_cast.specs.Words.{kind_mask}
 use Rattle.rt_cast.specs.States.{Heap, st, Fine}
 use Rattle.grift_base.specs.Types.{TypeRow, IntRow, BoolRow, UnitRow, DynRow, FunRow, TupleRow, RefRow, VectRow}
 use Rattle.grift_base.specs.Types.{parts_of}
@@ -285,7 +286,7 @@ module _ {V : Type 0} (walk : Walk V) where
       at_most walk
       (if_false walk objects fine wc 0 refl refl (eq_false wc 0 (λ e. omega (arith, z.0)))
       (loads walk objects fine wc (header k y m) ws 0 (header k y m) refl there refl refl refl
-      (computes walk objects fine (header k y m) 255 k refl refl (kind_read k y m lt) refl (go _))))
+      (computes walk objects fine (header k y m) kind_mask k refl refl (kind_read k y m lt) refl (go _))))
       (omega arith, omega arith, omega arith, omega arith)
 
   pub reads_both : {B : Budget} → (objects : List Object) (h : Heap) (fine : Fine walk.setting walk.l walk.around
@@ -303,7 +304,7 @@ module _ {V : Type 0} (walk : Walk V) where
       (if_false walk objects fine k 8 refl refl no8
       (if_false walk objects fine wd 0 refl refl (eq_false wd 0 (λ e. omega (arith, z.0)))
       (loads walk objects fine wd (header k2 y2 m2) ws2 0 (header k2 y2 m2) refl there2 refl refl refl
-      (computes walk objects fine (header k2 y2 m2) 255 k2 refl refl (kind_read k2 y2 m2 lt2) refl (go _)))))))
+      (computes walk objects fine (header k2 y2 m2) kind_mask k2 refl refl (kind_read k2 y2 m2 lt2) refl (go _)))))))
       (omega arith, omega arith, omega arith, omega arith)
 
   pub id_first : (d : Coercion) → ComposeDoes 1 0 0 20 Id d d

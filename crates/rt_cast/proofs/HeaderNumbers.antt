@@ -6,6 +6,7 @@ use Rattle.std.proofs.lemmas.Nat.{and_mask}
 use Rattle.low_ir.specs.Operations.{compute}
 use Rattle.low_ir.specs.declared.code.WordOp.TheVariants.{Add, And, Sll, Srl}
 use Rattle.coercion_norm.specs.ObjectsOfRows.{header}
+use Rattle.rt_cast.specs.Words.{kind_mask}
 
 pub eq_true : (a b : ℕ) → a ≡ b → (a == b) ≡ true
 eq_true a b e = grind arith
@@ -33,7 +34,7 @@ lt_cases a b = by (nat_lt a b) refl
     by true e = inl (grind (arith, e))
     by false e = inr (grind (arith, e))
 
-pub kind_read : (k h c : ℕ) → k < 256 → compute And (header k h c) 255 ≡ k
+pub kind_read : (k h c : ℕ) → k < 256 → compute And (header k h c) kind_mask ≡ k
 kind_read k h c lt = and_mask (header k h c) 8 ∙ omega arith
 
 pub height_read : (k h c : ℕ) → k < 65536 → h < 65536 → compute And (compute Srl (header k h c) 16) 65535 ≡ h

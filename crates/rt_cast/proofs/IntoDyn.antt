@@ -15,6 +15,7 @@ use Rattle.coercion_norm.specs.Held.{Layout, There, HoldsType, rows_in, height_i
 use Rattle.coercion_norm.specs.ObjectsOfRows.{header, type_kind}
 use Rattle.coercion_norm.proofs.Public.{found_within}
 use Rattle.object_layout.specs.DynWords.{is_narrow, tagged}
+use Rattle.rt_cast.specs.Words.{kind_mask}
 use Rattle.rt_cast.specs.CastCodes.{dyn_object, dyn_base, into_dyn, read_kind}
 use Rattle.rt_cast.specs.DynWords.{tag_of, behind_tag, small_dyn, IsDynBy, IsDyn}
 use Rattle.rt_cast.specs.States.{Grows, Heap, Fine, st}
@@ -74,7 +75,7 @@ module _ {V : Type 0} (walk : Walk V) where
       at_most walk
       (loads walk objects fine wt head (map walk.l.type_at (parts_of (R kept))) 0 head l8
       (type_there walk objects wt kept held) refl refl lt6
-      (computes walk objects fine head 255 (type_kind (R kept)) refl refl
+      (computes walk objects fine head kind_mask (type_kind (R kept)) refl refl
       (kind_read (type_kind (R kept)) (height_in walk.l kept) (length (parts_of (R kept))) (type_numbers (R kept)))
       lt6 (go head)))
       (omega arith, omega arith, omega arith, omega arith)

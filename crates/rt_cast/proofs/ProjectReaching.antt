@@ -10,13 +10,13 @@ use Rattle.coercion_norm.specs.Objects.{Object}
 use Rattle.coercion_norm.specs.Held.{Layout}
 use Rattle.rt_cast.specs.WholeObjects.{IsSolid}
 use Rattle.rt_cast.specs.Procs.{project_proc}
-use Rattle.rt_cast.specs.States.{Filled, Grows, IsReady, heap_of}
+use Rattle.rt_cast.specs.States.{Filled, Fine, Grows, IsReady, around, heap_of}
 use Rattle.rt_cast.specs.MergedValues.{Merged, Outcome, Stuck}
 use Rattle.rt_cast.specs.PartValues.{part_value, dyn_part_value}
 use Rattle.rt_cast.specs.Carried.{CarriedBy, Carries, IsVery, HaveParts, ComesTo, ComesToOutcome}
 use Rattle.rt_cast.proofs.Steps.{End}
 use Rattle.rt_cast.proofs.Reaching.{at_first, walk}
-use Rattle.rt_cast.proofs.CastReaching.{ends, very_still}
+use Rattle.rt_cast.proofs.CastReaching.{comes_to, very_still}
 use Rattle.rt_cast.proofs.ProjectRuns.{tuple_part_done, dyn_part_done}
 
 module _ {V : Type 0} (reading : Halt → Ending V) (setting : Setting) (l : Layout) (first : ℕ) (s : LowState)
@@ -26,6 +26,9 @@ module _ {V : Type 0} (reading : Halt → Ending V) (setting : Setting) (l : Lay
       (is_solid : (objects : List Object) (a : A) (w : ℕ) → IsHeld objects a w → IsSolid l objects w)
       (low : l.tallest ≤ 65534) (objects : List Object) (filled : Filled setting l objects (heap_of s))
       (parts : A → List (Merged A)) (have : HaveParts l IsHeld objects parts) where
+    fine : Fine setting l (around s) objects (heap_of s)
+    fine = at_first reading setting l first s exhausts ready objects filled
+
     -- over any meaning of what stands under proxies
     pub parts_of_tuples : (u : Merged A) (r : Outcome A) (wv k label : ℕ) → part_value head parts l.types k u ≡ r
         → (r ≡ Stuck → ⊥) → CarriedBy l IsHeld objects u wv
@@ -33,19 +36,11 @@ module _ {V : Type 0} (reading : Halt → Ending V) (setting : Setting) (l : Lay
         (tuple_cost l.width l.tallest) (4 * l.tallest + 6) (tuple_part_words parts l k u)
         (tuple_part_price parts l k u)
     parts_of_tuples u r wv k label e some hv =
-        let w =
-        walk reading setting l first s exhausts ready (ComesTo l setting s IsHeld objects r) (4 * l.tallest + 6)
-        (tuple_part_words parts l k u) in
-        let z =
-        tuple_part_done w low A IsHeld still is_solid head parts End objects (heap_of s)
-        (at_first reading setting l first s exhausts ready objects filled) have s.waiting u wv k label hv r e some
-        (ends reading setting l first s exhausts ready head IsHeld still is_solid low objects r some
-        (4 * l.tallest + 6) (tuple_part_words parts l k u) r refl) in (
-          z.steps,
-          (let f = z.few in omega arith),
-          z.reach (record { room = omega arith; left = omega arith }),
-          let c = z.cheap in omega (arith, c),
-        )
+        comes_to reading setting l first s exhausts ready head IsHeld still is_solid low objects r some
+        (4 * l.tallest + 6) (tuple_part_words parts l k u) r refl
+        (λ go. tuple_part_done (walk reading setting l first s exhausts ready (ComesTo l setting s IsHeld objects r)
+        (4 * l.tallest + 6) (tuple_part_words parts l k u)) low A IsHeld still is_solid head parts End objects
+        (heap_of s) fine have s.waiting u wv k label hv r e some go) (omega arith) (omega arith)
 
     pub parts_in_dyn : (u : Merged A) (r : Outcome A) (wv k label : ℕ)
         → dyn_part_value head parts l.types k label u ≡ r → (r ≡ Stuck → ⊥) → CarriedBy l IsHeld objects u wv
@@ -53,19 +48,11 @@ module _ {V : Type 0} (reading : Halt → Ending V) (setting : Setting) (l : Lay
         (project_cost l.width l.tallest) (4 * l.tallest + 7) (dyn_part_words parts l k u)
         (dyn_part_price parts l k u)
     parts_in_dyn u r wv k label e some hv =
-        let w =
-        walk reading setting l first s exhausts ready (ComesTo l setting s IsHeld objects r) (4 * l.tallest + 7)
-        (dyn_part_words parts l k u) in
-        let z =
-        dyn_part_done w low A IsHeld still is_solid head parts End objects (heap_of s)
-        (at_first reading setting l first s exhausts ready objects filled) have s.waiting u wv k label hv r e some
-        (ends reading setting l first s exhausts ready head IsHeld still is_solid low objects r some
-        (4 * l.tallest + 7) (dyn_part_words parts l k u) r refl) in (
-          z.steps,
-          (let f = z.few in omega arith),
-          z.reach (record { room = omega arith; left = omega arith }),
-          let c = z.cheap in omega (arith, c),
-        )
+        comes_to reading setting l first s exhausts ready head IsHeld still is_solid low objects r some
+        (4 * l.tallest + 7) (dyn_part_words parts l k u) r refl
+        (λ go. dyn_part_done (walk reading setting l first s exhausts ready (ComesTo l setting s IsHeld objects r)
+        (4 * l.tallest + 7) (dyn_part_words parts l k u)) low A IsHeld still is_solid head parts End objects
+        (heap_of s) fine have s.waiting u wv k label hv r e some go) (omega arith) (omega arith)
 
   -- over what stands under proxies as it stands
   pub parts_of_tuples_are_answered : l.tallest ≤ 65534 → (objects : List Object)

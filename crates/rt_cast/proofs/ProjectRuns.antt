@@ -23,6 +23,7 @@ use Rattle.coercion_norm.specs.Heights.{coercion_height, highest, TypeNoHigher}
 use Rattle.cast_modes.specs.Modes.{part_to_dyn, cast_to_dyn, kept_part}
 use Rattle.coercion_norm.specs.MergedMode.{part_at, tuple_coercion}
 use Rattle.coercion_norm.specs.Normal.{IsNormal, AreNormal}
+use Rattle.rt_cast.specs.Words.{kind_mask}
 use Rattle.rt_cast.specs.Costs.{tuple_cost, project_cost}
 use Rattle.rt_cast.specs.LightCasts.{cast_words_of, cast_price_of}
 use Rattle.rt_cast.specs.PartCosts.{of_cast, of_part, dyn_part_words, dyn_part_price}
@@ -286,7 +287,7 @@ module _ {V : Type 0} (walk : Walk V) (low : walk.l.tallest ≤ 65534) (A : Type
           (if_false walk objects fine 1 0 refl refl refl
           (computes walk objects fine k 3 (8 * k) refl refl (let z = w.end in omega (arith, z)) refl
           (loads walk objects fine wv head4 p.ws 0 head4 refl p.there refl refl refl
-          (computes walk objects fine head4 255 4 refl refl (kind_read 4 0 (length p.ws) (omega arith)) refl
+          (computes walk objects fine head4 kind_mask 4 refl refl (kind_read 4 0 (length p.ws) (omega arith)) refl
           (if_false walk objects fine 4 2 refl refl refl
           (computes walk objects fine wv (8 * k) (wv + 8 * k) refl refl (let z = w.end in omega (arith, z)) refl
           (loads_at walk objects fine (wv + 8 * k) p.word refl w refl
@@ -325,7 +326,7 @@ module _ {V : Type 0} (walk : Walk V) (low : walk.l.tallest ≤ 65534) (A : Type
           (if_false walk objects fine 1 0 refl refl refl
           (computes walk objects fine k 3 (8 * k) refl refl (let z = w.end in omega (arith, z)) refl
           (loads walk objects fine wv proxy_header ws2 0 proxy_header refl hv.2 refl refl refl
-          (computes walk objects fine proxy_header 255 2 refl refl (kind_read 2 0 2 (omega arith)) refl
+          (computes walk objects fine proxy_header kind_mask 2 refl refl (kind_read 2 0 2 (omega arith)) refl
           (if_true walk objects fine 2 2 refl refl refl
           (loads walk objects fine wv proxy_header ws2 1 hv.0 refl hv.2 refl refl refl
           (computes walk objects fine hv.0 (8 * k) (hv.0 + 8 * k) refl refl (let z = w.end in omega (arith, z)) refl
@@ -517,7 +518,7 @@ module _ {V : Type 0} (walk : Walk V) (low : walk.l.tallest ≤ 65534) (A : Type
           (loads walk objects fine wv dyn_header (d.0 ∷ hv.0 ∷ []) 2 hv.0 refl d.1 refl refl refl
           (loads walk objects fine d.0 type_head type_words 0 type_head refl (type_there walk objects d.0 kept d.2) refl
           refl refl
-          (computes walk objects fine type_head 255 (type_kind (R kept)) refl refl
+          (computes walk objects fine type_head kind_mask (type_kind (R kept)) refl refl
           (kind_read (type_kind (R kept)) (height_in walk.l kept) (length (parts_of (R kept))) tk) refl
           (computes walk objects fine type_head 32 (length (parts_of (R kept))) refl refl
           (count_read (type_kind (R kept)) (height_in walk.l kept) (length (parts_of (R kept))) (omega (arith, tk))

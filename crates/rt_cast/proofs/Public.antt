@@ -15,6 +15,7 @@ pub use Rattle.rt_cast.proofs.Small.{ReachedIn, grows_not, grows_on, not_zero}
 pub use Rattle.rt_cast.proofs.Reaching.{at_first, walk}
 -- steps, one lemma an instruction, with what is left of their number:
 pub use Rattle.rt_cast.proofs.Steps.{Budget, One, Out, Pay, Spare, End, More, Comes, goes, one_less, paid_for, at_most}
+pub use Rattle.rt_cast.proofs.Steps.{arrives, counted}
 pub use Rattle.rt_cast.proofs.Steps.{sets_word, computes, loads, loads_at, if_true, if_false, calls, comes_back}
 pub use Rattle.rt_cast.proofs.Steps.{tail_calls}
 -- words of objects, and numbers that are told apart:
@@ -32,7 +33,11 @@ pub use Rattle.rt_cast.proofs.CastRuns.{GoesOn, no_higher, whole_above, carried_
 pub use Rattle.rt_cast.proofs.CastRuns.{words_within, price_within}
 pub use Rattle.rt_cast.proofs.HeavyTurns.{heavy_unless_light}
 pub use Rattle.rt_cast.proofs.CastDecisions.{low_of, by_cast as decided_cast}
-pub use Rattle.rt_cast.proofs.CastReaching.{ends, very_still}
+pub use Rattle.rt_cast.proofs.CastReaching.{ends, blames_at, very_still}
+-- coercions without projection or injection, and what follows them:
+pub use Rattle.rt_cast.proofs.ComposeRuns.{is_plain, plain_solid, follow_plain, solid_is}
+pub use Rattle.rt_cast.proofs.CastDecisions.{after_no_project}
 -- words in Dyn, behind a tag or not:
-pub use Rattle.rt_cast.proofs.DynWords.{SmallIs, small_is, small_fits, tag_read, no_tag, untagged}
+pub use Rattle.rt_cast.proofs.DynWords.{SmallIs, small_is, small_fits, tag_read, no_tag, untagged, narrow_back}
+pub use Rattle.rt_cast.proofs.DynWords.{wide_differs}
 pub use Rattle.rt_cast.proofs.IntoDyn.{dyn_still}

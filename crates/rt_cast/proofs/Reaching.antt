@@ -15,7 +15,8 @@ use Rattle.rt_cast.specs.Frames.{waiting_room}
 use Rattle.rt_cast.specs.Procs.{coerce_proc, compose_proc}
 use Rattle.rt_cast.specs.States.{Filled, Fine, OnTheWay, Within, HeldAt, IsReady, ComesToHeld, around, heap_of}
 use Rattle.rt_cast.proofs.Walks.{Walk}
-use Rattle.rt_cast.proofs.Steps.{End}
+use Rattle.rt_cast.proofs.Steps.{End, arrives, counted}
+use Rattle.rt_cast.proofs.Middles.{Answers}
 use Rattle.rt_cast.proofs.ComposeRuns.{all_composed}
 use Rattle.rt_cast.proofs.CoerceRuns.{all_cast}
 
@@ -50,6 +51,26 @@ module _ {V : Type 0} (reading : Halt → Ending V) (setting : Setting) (l : Lay
     types = ready.types;
   }
 
+  -- where the coercion is answered, the walk has come there
+  held_at : (objects : List Object) (c : Coercion) (frames words : ℕ)
+      → Answers (walk (HeldAt setting l (around s) objects s.waiting c) frames words) End objects s.waiting c
+  held_at objects c frames words = λ new h word count locals rests a grows fine held is.
+      arrives (walk (HeldAt setting l (around s) objects s.waiting c) frames words) (λ room asked. (
+        record { room = room; asked = asked },
+        record {
+          new = new;
+          grows = grows;
+          fine = fine;
+          word = word;
+          held = held;
+          source = a;
+          code = refl;
+          is = is;
+          waits = refl;
+          same = refl;
+        },
+      ))
+
   pub compositions_are_held : (objects : List Object) → Filled setting l objects (heap_of s)
       → (c d : Coercion) (wc wd : ℕ)
       → IsSound l.types c → IsSound l.types d → Held l objects c wc → Held l objects d wd
@@ -60,41 +81,15 @@ module _ {V : Type 0} (reading : Halt → Ending V) (setting : Setting) (l : Lay
       (compose_price l.width (max (coercion_height (height_in l) c) (coercion_height (height_in l) d)))
   compositions_are_held objects filled c d wc wd sc sd hc hd =
       let n = max (coercion_height (height_in l) c) (coercion_height (height_in l) d) in
-      let most = compose_cost l.width n in
-      let Q = HeldAt setting l (around s) objects s.waiting (composition_of l.types c d) in
-      let w = walk Q (4 * n + 4) (compose_words l.width n) in
+      let w = walk (HeldAt setting l (around s) objects s.waiting (composition_of l.types c d)) (4 * n + 4)
+      (compose_words l.width n) in
       let le : n ≤ 65534 = omega (arith, sc.low, sd.low) in
-      let z =
-      all_composed w (λ m low. all_cast w m low) n le c d sc.normal sd.normal
+      counted w
+      (all_composed w (λ m low. all_cast w m low) n le c d sc.normal sd.normal
       (bound_from_height (rows_in l) (height_in l) ready.types.heights c n (omega arith))
       (bound_from_height (rows_in l) (height_in l) ready.types.heights d n (omega arith)) End objects (heap_of s)
       (at_first objects filled) s.waiting wc wd hc hd
-      (λ new h w count locals rests a grows fine held is. record {
-        steps = 0;
-        few = le_refl 0;
-        cheap = omega arith;
-        reach = λ spare. (
-          record { room = let q = spare.room in omega (arith, q); asked = let q = spare.left in omega (arith, q) },
-          record {
-            new = new;
-            grows = grows;
-            fine = fine;
-            word = w;
-            held = held;
-            source = a;
-            code = refl;
-            is = is;
-            waits = refl;
-            same = refl;
-          },
-        );
-      })
-      in (
-        z.steps,
-        (let f = z.few in omega arith),
-        z.reach (record { room = omega arith; left = omega arith }),
-        let c = z.cheap in omega (arith, c),
-      )
+      (held_at objects (composition_of l.types c d) (4 * n + 4) (compose_words l.width n))) (omega arith) (omega arith)
 
   pub coercions_of_casts_are_held : (objects : List Object) → Filled setting l objects (heap_of s)
       → (from to label wf wt : ℕ)
@@ -106,37 +101,11 @@ module _ {V : Type 0} (reading : Halt → Ending V) (setting : Setting) (l : Lay
       (coerce_price l.width (max (height_in l from) (height_in l to)))
   coercions_of_casts_are_held objects filled from to label wf wt hf ht small =
       let n = max (height_in l from) (height_in l to) in
-      let most = coerce_cost l.width n in
-      let Q = HeldAt setting l (around s) objects s.waiting (cast_of l.types from to label) in
-      let w = walk Q (n + 1) (coerce_words l.width n) in
+      let w = walk (HeldAt setting l (around s) objects s.waiting (cast_of l.types from to label)) (n + 1)
+      (coerce_words l.width n) in
       let le : n ≤ 65534 = omega (arith, ready.types.low from, ready.types.low to) in
-      let z =
-      all_cast w n le from to label ((ready.types.heights from n).1 (omega arith))
+      counted w
+      (all_cast w n le from to label ((ready.types.heights from n).1 (omega arith))
       ((ready.types.heights to n).1 (omega arith)) End objects (heap_of s) (at_first objects filled) s.waiting wf wt
-      hf ht small
-      (λ new h w count locals rests a grows fine held is. record {
-        steps = 0;
-        few = le_refl 0;
-        cheap = omega arith;
-        reach = λ spare. (
-          record { room = let q = spare.room in omega (arith, q); asked = let q = spare.left in omega (arith, q) },
-          record {
-            new = new;
-            grows = grows;
-            fine = fine;
-            word = w;
-            held = held;
-            source = a;
-            code = refl;
-            is = is;
-            waits = refl;
-            same = refl;
-          },
-        );
-      })
-      in (
-        z.steps,
-        (let f = z.few in omega arith),
-        z.reach (record { room = omega arith; left = omega arith }),
-        let c = z.cheap in omega (arith, c),
-      )
+      hf ht small (held_at objects (cast_of l.types from to label) (n + 1) (coerce_words l.width n))) (omega arith)
+      (omega arith)

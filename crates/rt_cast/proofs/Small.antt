@@ -3,6 +3,7 @@ use Rattle.std.proofs.Common.{◌≡◌, ◌⊎◌, inl, inr, ℕ, ◌^◌, ◌<
 use Rattle.std.proofs.Common.{false, List, [], ◌∷◌, ◌++◌, Some, refl, sym, ap, ◌∙◌, subst}
 use Rattle.std.proofs.Common.{arith, append_assoc, append-nil}
 use Rattle.std.specs.Prelude.{◌==◌, length, max}
+use Rattle.rt_cast.specs.Words.{kind_mask}
 use Rattle.rt_cast.specs.States.{Grows, Heap, st, Fine}
 use Rattle.low_ir.specs.Operations.{compute}
 use Rattle.low_ir.specs.declared.code.WordOp.TheVariants.{Srl}
@@ -129,7 +130,7 @@ module _ {V : Type 0} (walk : Walk V) where
       at_most walk
       (if_false walk objects fine w 0 refl refl (eq_false w 0 (λ e. omega (arith, z.0)))
       (loads walk objects fine w (header k y n) ws 0 (header k y n) refl there refl refl refl
-      (computes walk objects fine (header k y n) 255 k refl refl (kind_read k y n lt) refl
+      (computes walk objects fine (header k y n) kind_mask k refl refl (kind_read k y n lt) refl
       (if_false walk objects fine k 14 refl refl other (go 2 _ _ (Word 0) refl)))))
       (omega arith, omega arith, omega arith, omega arith)
 
@@ -153,7 +154,7 @@ module _ {V : Type 0} (walk : Walk V) where
       at_most walk
       (if_false walk objects fine w 0 refl refl (eq_false w 0 (λ e. omega (arith, n.0)))
       (loads walk objects fine w head (held.0 ∷ label ∷ held.1 ∷ []) 0 head refl held.2 refl refl refl
-      (computes walk objects fine head 255 14 refl refl (kind_read 14 (coercion_height (height_in walk.l)
+      (computes walk objects fine head kind_mask 14 refl refl (kind_read 14 (coercion_height (height_in walk.l)
       (Project wanted label i)) 3 (omega arith)) refl
       (if_true walk objects fine 14 14 refl refl refl (go 2 _ _ (Number 0) refl)))))
       (omega arith, omega arith, omega arith, omega arith)

@@ -283,6 +283,26 @@ module _ {V : Type 0} (walk : Walk V) where
     reach = λ s. by_step N walk.P walk.Q c.steps t (Go t') e (p s) (c.reach (spare s));
   }
 
+  -- it has come there, whatever the budget
+  pub arrives : {B : Budget} {t : LowState} → (stack_room t ≤ walk.room → t.words ≤ walk.most → walk.Q t) → Comes B t
+  arrives q = record {
+    steps = 0;
+    few = omega arith;
+    cheap = omega arith;
+    reach = λ s. q (let r = s.room in omega (arith, r)) (let a = s.left in omega (arith, a));
+  }
+
+  -- what a budget says, where there is room for its frames and its words
+  pub counted : {n d a p : ℕ} {t : LowState} → Comes (More n d a p End) t → stack_room t + 25 * d ≤ walk.room
+      → t.words + a ≤ walk.most
+      → (k : ℕ) × (k ≤ n) × Reaches N walk.P walk.Q k t × CostsAtMost walk.reading walk.setting k t p
+  counted z room asked = (
+    z.steps,
+    (let f = z.few in omega (arith, f)),
+    z.reach (record { room = omega (arith, room); left = omega (arith, asked) }),
+    let c = z.cheap in omega (arith, c),
+  )
+
   -- within a greater budget
   pub at_most : {A B : Budget} {t : LowState} → Comes A t → Below A B → Comes B t
   at_most c le = record {

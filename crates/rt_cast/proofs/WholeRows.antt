@@ -4,7 +4,7 @@ use Rattle.std.proofs.Common.{List, [], ◌∷◌, ◌++◌, length, replicate, 
 use Rattle.std.proofs.Common.{subst}
 use Rattle.std.proofs.Common.{append_assoc, append-nil, map, arith}
 use Rattle.std.specs.Prelude.{◌==◌, ◌&&◌, nat_le, if◌then◌else◌}
-use Rattle.grift_base.specs.Types.{TypeRow, IntRow, BoolRow, UnitRow, DynRow, FunRow, TupleRow, RefRow, VectRow}
+use Rattle.grift_base.specs.Types.{TypeRow, IntRow}
 use Rattle.grift_base.specs.Types.{parts_of}
 use Rattle.machine_words.specs.Memory.{Memory, load_bytes}
 use Rattle.low_ir.specs.Run.{Setting}
@@ -18,9 +18,7 @@ use Rattle.object_layout.specs.declared.headers.Header.{Header}
 use Rattle.object_layout.specs.declared.kinds.Kind.{Kind as ObjectKind}
 use Rattle.object_layout.specs.declared.kinds.Kind.TheVariants.{Closure, Proxy, Dyn, Tuple, Boxed, Vector}
 use Rattle.object_layout.specs.declared.kinds.Kind.TheVariants.{Fail as FailObject, Inject as InjectObject}
-use Rattle.object_layout.specs.declared.kinds.Kind.TheVariants.{Project as ProjectObject, Fun, Tup, Ref, Vec}
-use Rattle.object_layout.specs.declared.kinds.Kind.TheVariants.{IntType, BoolType, UnitType, DynType, FunType}
-use Rattle.object_layout.specs.declared.kinds.Kind.TheVariants.{TupleType, RefType, VecType}
+use Rattle.object_layout.specs.declared.kinds.Kind.TheVariants.{Project as ProjectObject}
 use Rattle.object_layout.specs.declared.kinds.Wanted.TheVariants.{Coercion, TypeAddress}
 use Rattle.object_layout.specs.declared.wholes.Area.TheVariants.{Region}
 use Rattle.object_layout.specs.Kinds.{kind_number as number_of, is_free, is_coercion, is_target, is_middle}
@@ -45,106 +43,36 @@ use Rattle.rt_cast.proofs.Objects.{proxy_header, dyn_header, fail_header, inject
 
 free_target : (kind : ObjectKind) → is_free kind ≡ true → is_target kind ≡ true
 free_target Closure e = refl
-free_target Proxy e = refl
-free_target Dyn e = e
 free_target Tuple e = refl
 free_target Boxed e = refl
 free_target Vector e = refl
-free_target FailObject e = e
-free_target Fun e = e
-free_target Tup e = e
-free_target Ref e = e
-free_target Vec e = e
-free_target InjectObject e = e
-free_target ProjectObject e = e
-free_target IntType e = e
-free_target BoolType e = e
-free_target UnitType e = e
-free_target DynType e = e
-free_target FunType e = e
-free_target TupleType e = e
-free_target RefType e = e
-free_target VecType e = e
+free_target _ e = absurd (let z : ⊥ = cc in z)
 
 -- the words of a closure, a tuple, a box or a vector say nothing of other objects
 free_wanted : (kind : ObjectKind) (count : ℕ) → is_free kind ≡ true → wanted_words kind count ≡ []
 free_wanted Closure count e = refl
-free_wanted Proxy count e = absurd (let z : ⊥ = cc in z)
-free_wanted Dyn count e = absurd (let z : ⊥ = cc in z)
 free_wanted Tuple count e = refl
 free_wanted Boxed count e = refl
 free_wanted Vector count e = refl
-free_wanted FailObject count e = absurd (let z : ⊥ = cc in z)
-free_wanted Fun count e = absurd (let z : ⊥ = cc in z)
-free_wanted Tup count e = absurd (let z : ⊥ = cc in z)
-free_wanted Ref count e = absurd (let z : ⊥ = cc in z)
-free_wanted Vec count e = absurd (let z : ⊥ = cc in z)
-free_wanted InjectObject count e = absurd (let z : ⊥ = cc in z)
-free_wanted ProjectObject count e = absurd (let z : ⊥ = cc in z)
-free_wanted IntType count e = absurd (let z : ⊥ = cc in z)
-free_wanted BoolType count e = absurd (let z : ⊥ = cc in z)
-free_wanted UnitType count e = absurd (let z : ⊥ = cc in z)
-free_wanted DynType count e = absurd (let z : ⊥ = cc in z)
-free_wanted FunType count e = absurd (let z : ⊥ = cc in z)
-free_wanted TupleType count e = absurd (let z : ⊥ = cc in z)
-free_wanted RefType count e = absurd (let z : ⊥ = cc in z)
-free_wanted VecType count e = absurd (let z : ⊥ = cc in z)
+free_wanted _ count e = absurd (let z : ⊥ = cc in z)
 
 free_high : (kind : ObjectKind) (y : ℕ) → is_free kind ≡ true → HasHeight kind 0 y
 free_high Closure y e = tt
-free_high Proxy y e = absurd (let z : ⊥ = cc in z)
-free_high Dyn y e = absurd (let z : ⊥ = cc in z)
 free_high Tuple y e = tt
 free_high Boxed y e = tt
 free_high Vector y e = tt
-free_high FailObject y e = absurd (let z : ⊥ = cc in z)
-free_high Fun y e = absurd (let z : ⊥ = cc in z)
-free_high Tup y e = absurd (let z : ⊥ = cc in z)
-free_high Ref y e = absurd (let z : ⊥ = cc in z)
-free_high Vec y e = absurd (let z : ⊥ = cc in z)
-free_high InjectObject y e = absurd (let z : ⊥ = cc in z)
-free_high ProjectObject y e = absurd (let z : ⊥ = cc in z)
-free_high IntType y e = absurd (let z : ⊥ = cc in z)
-free_high BoolType y e = absurd (let z : ⊥ = cc in z)
-free_high UnitType y e = absurd (let z : ⊥ = cc in z)
-free_high DynType y e = absurd (let z : ⊥ = cc in z)
-free_high FunType y e = absurd (let z : ⊥ = cc in z)
-free_high TupleType y e = absurd (let z : ⊥ = cc in z)
-free_high RefType y e = absurd (let z : ⊥ = cc in z)
-free_high VecType y e = absurd (let z : ⊥ = cc in z)
+free_high _ y e = absurd (let z : ⊥ = cc in z)
 
 free_stands : (kind : ObjectKind) → is_free kind ≡ true → is_type kind ≡ false
 free_stands Closure e = refl
-free_stands Proxy e = absurd (let z : ⊥ = cc in z)
-free_stands Dyn e = absurd (let z : ⊥ = cc in z)
 free_stands Tuple e = refl
 free_stands Boxed e = refl
 free_stands Vector e = refl
-free_stands FailObject e = absurd (let z : ⊥ = cc in z)
-free_stands Fun e = absurd (let z : ⊥ = cc in z)
-free_stands Tup e = absurd (let z : ⊥ = cc in z)
-free_stands Ref e = absurd (let z : ⊥ = cc in z)
-free_stands Vec e = absurd (let z : ⊥ = cc in z)
-free_stands InjectObject e = absurd (let z : ⊥ = cc in z)
-free_stands ProjectObject e = absurd (let z : ⊥ = cc in z)
-free_stands IntType e = absurd (let z : ⊥ = cc in z)
-free_stands BoolType e = absurd (let z : ⊥ = cc in z)
-free_stands UnitType e = absurd (let z : ⊥ = cc in z)
-free_stands DynType e = absurd (let z : ⊥ = cc in z)
-free_stands FunType e = absurd (let z : ⊥ = cc in z)
-free_stands TupleType e = absurd (let z : ⊥ = cc in z)
-free_stands RefType e = absurd (let z : ⊥ = cc in z)
-free_stands VecType e = absurd (let z : ⊥ = cc in z)
+free_stands _ e = absurd (let z : ⊥ = cc in z)
 
 type_is : (row : TypeRow) → is_type (kind_of_type row) ≡ true
 type_is IntRow = refl
-type_is BoolRow = refl
-type_is UnitRow = refl
-type_is DynRow = refl
-type_is (FunRow ps a) = refl
-type_is (TupleRow ps) = refl
-type_is (RefRow c) = refl
-type_is (VectRow c) = refl
+type_is _ = refl
 
 middle_is : (kind : Kind) → is_middle (middle_kind kind) ≡ true
 middle_is FunKind = refl
