@@ -1,6 +1,6 @@
 -- What apply comes to, from a state in which whole objects fill the region.
 use Rattle.std.proofs.Common.{◌≡◌, ℕ, ◌+◌, ◌*◌, ◌≤◌, List, [], ◌∷◌, length, Some, refl, sym, ap, ap₂, ◌∙◌, subst}
-use Rattle.std.proofs.Common.{suc, le_refl, arith}
+use Rattle.std.proofs.Common.{suc, arith}
 use Rattle.grift_base.specs.Types.{TypeHead}
 use Rattle.run_laws.specs.Runs.{Ending, Exhausted}
 use Rattle.run_laws.proofs.Public.{reaches_weaken}
@@ -21,6 +21,7 @@ use Rattle.rt_cast.specs.ComposeCodes.{cast}
 use Rattle.rt_cast.specs.States.{Grows, Fine, Filled, IsReady, OnTheWay, Within, around, heap_of, st}
 use Rattle.rt_cast.specs.MergedValues.{Merged, Proxied, Outcome, Stuck, cast_value}
 use Rattle.rt_cast.specs.Carried.{CarriedBy, AreCarried, IsLow, ComesTo}
+use Rattle.rt_cast.proofs.Public.{arrives, counted}
 use Rattle.rt_cast.proofs.Public.{Walk, none_some, End, More, at_most, loads, tail_calls, ReachedIn, grows_not}
 use Rattle.rt_cast.proofs.Public.{at_first, walk, apply, ends, no_higher, by_either, low_of, decided_cast}
 use Rattle.rt_cast.specs.Procs.{cast_proc}
@@ -76,15 +77,15 @@ module _ {V : Type 0} (reading : Halt → Ending V) (setting : Setting) (l : Lay
       → HasAddress objects f address
       → ComesToCall reading setting l first s IsHeld objects heads (apply_proc (cast first)) (handed wv ws) f address e
       ds us
-  function_called low objects filled f parts ds e split us wv ws hv hu few many address closure = (
-    z.steps,
-    (let g = z.few in omega (arith, g)),
-    reaches_weaken (low_machine reading setting) (OnTheWay setting l t0 deep 0) (λ x. Within t0 deep 0 x × Found x)
-        (OnTheWay setting l t0 deep 0) (λ x. Within t0 deep 0 x × InTurn x) (λ x w. w)
-        (λ x q. (q.0, subst InTurn (sym q.1) in_turn)) z.steps t0
-        (z.reach (record { room = omega arith; left = omega arith })),
-    let c = z.cheap in omega (arith, c),
-  )
+  function_called low objects filled f parts ds e split us wv ws hv hu few many address closure =
+      let came = counted w z (omega arith) (omega arith) in (
+        came.0,
+        came.1,
+        reaches_weaken (low_machine reading setting) (OnTheWay setting l t0 deep 0) (λ x. Within t0 deep 0 x × Found x)
+            (OnTheWay setting l t0 deep 0) (λ x. Within t0 deep 0 x × InTurn x) (λ x w. w)
+            (λ x q. (q.0, subst InTurn (sym q.1) in_turn)) came.0 t0 came.2,
+        came.3,
+      )
     where
       deep : ℕ
       deep = 4 * l.tallest + 7
@@ -121,18 +122,7 @@ module _ {V : Type 0} (reading : Halt → Ending V) (setting : Setting) (l : Lay
       z : ReachedIn w (More 3 0 0 9 End) t0
       z =
           let c = closure hv.0 hv.3 in
-          let last : ReachedIn w End t1 = record {
-            steps = 0;
-            few = le_refl 0;
-            cheap = omega arith;
-            reach = λ spare. (
-              record {
-                room = let q = spare.room in omega (arith, q);
-                asked = let q = spare.left in omega (arith, q);
-              },
-              refl,
-            );
-          } in
+          let last : ReachedIn w End t1 = arrives w (λ room asked. (record { room = room; asked = asked }, refl)) in
           at_most w
           (loads w objects fine wv proxy_header (hv.0 ∷ hv.1 ∷ []) 1 hv.0 refl hv.2 refl refl refl
           (loads w objects fine wv proxy_header (hv.0 ∷ hv.1 ∷ []) 2 hv.1 refl hv.2 refl refl refl
@@ -174,12 +164,7 @@ module _ {V : Type 0} (reading : Halt → Ending V) (setting : Setting) (l : Lay
       → GoesOnTo reading setting l s IsHeld objects w wv r (cast_cost l.width l.tallest + 1) (4 * l.tallest + 6)
       (cast_words_of l c u) (cast_price_of l c u + 70)
   answers_cast low objects filled head w c resumes u wv hv r e some =
-      let z = begun in (
-        z.steps,
-        (let g = z.few in omega arith),
-        z.reach (record { room = omega arith; left = omega arith }),
-        let c = z.cheap in omega (arith, c),
-      )
+      counted v begun (omega arith) (omega arith)
     where
       most : ℕ
       most = cast_cost l.width l.tallest + 1

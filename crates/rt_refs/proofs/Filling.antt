@@ -3,7 +3,7 @@
 use Rattle.std.proofs.Common.{◌≡◌, ◌⊎◌, inl, inr, ℕ, zero, suc, ◌+◌, ◌*◌, ◌%◌, ◌^◌, ◌<◌, ◌≤◌, Bool, true, false}
 use Rattle.std.proofs.Common.{List, [], ◌∷◌, ◌++◌, Some, refl, sym, ap, ◌∙◌, subst, arith}
 use Rattle.std.proofs.Common.{le_refl}
-use Rattle.std.specs.Prelude.{◌==◌, not, nat_lt, nat_le, slice_get, pos, replicate}
+use Rattle.std.specs.Prelude.{◌==◌, not, nat_lt, nat_le, slice_get, pos, replicate, if◌then◌else◌}
 use Rattle.grift_base.specs.EnvironmentCall.{environment_call}
 use Rattle.grift_base.specs.declared.verdicts.Trap.TheVariants.{Length}
 use Rattle.run_laws.specs.Runs.{Ending, Exhausted}
@@ -38,6 +38,7 @@ use Rattle.rt_cast.specs.Objects.{HasWord, HoldsWords}
 use Rattle.rt_cast.specs.States.{Heap, Fine, Filled, Placed, OnTheWay, Within as IsWithin, around, heap_of, entered, st}
 use Rattle.rt_cast.specs.WholeObjects.{WholeOther}
 use Rattle.rt_cast.proofs.Public.{eq_true, eq_false, holds_append, holds_same, wholes_more}
+use Rattle.rt_cast.specs.Words.{count_bits, word_shift}
 use Rattle.rt_refs.specs.FillCodes.{fill_loop, fill_code, fill_proc, trap_length}
 use Rattle.rt_refs.specs.FillLaws.{MadeAt, ComesToVector}
 use Rattle.rt_refs.specs.CellLaws.{TrapsAt, ComesWhere}
@@ -136,38 +137,33 @@ module _ {V : Type 0} (reading : Halt → Ending V) (setting : Setting) (s : Low
 
   module _ {b price : ℕ} {count : ℕ} {locals : Locals} {rests : List Code} {waiting : List Waiting} (m : Memory)
       (same : Below s m) (room : frame_room count + waiting_room waiting ≤ waiting_room s.waiting + 25 * (1 + 1)) where
+    -- a step within the procedure, which leaves the storage as it is
+    within : (code : Code) → code_turns code ≤ 10 → (locals' : Locals) (code' : Code) (rests' : List Code)
+        → N.step (St count locals code rests waiting (heap m)) ≡ Go (St count locals' code' rests' waiting (heap m))
+        → Within b price (St count locals' code' rests' waiting (heap m))
+        → Within (suc b) (step_price setting.procs count code + price) (St count locals code rests waiting (heap m))
+    within code few locals' code' rests' e c =
+        step (St count locals code rests waiting (heap m)) (St count locals' code' rests' waiting (heap m)) e
+        (way count locals code rests waiting m s.words same few room (omega arith)) (omega arith) c
+
     computes : {op : WordOp} {d : ℕ} {x y : LowSource} {rest : Code} (u v z : ℕ) → word_of locals x ≡ Some u
         → word_of locals y ≡ Some v → compute op u v ≡ z → nat_lt d count ≡ true
         → Within b price (St count (set_local d z locals) rest rests waiting (heap m))
         → Within (suc b) (step_price setting.procs count (Compute op d x y rest) + price)
         (St count locals (Compute op d x y rest) rests waiting (heap m))
     computes {op = op} {d = d} {x = x} {y = y} {rest = rest} u v z e f g lt c =
-        step (St count locals (Compute op d x y rest) rests waiting (heap m))
-        (St count (set_local d z locals) rest rests waiting (heap m)) (rw (e, f, g, lt) refl)
-        (way count locals (Compute op d x y rest) rests waiting m s.words same (omega arith) room (omega arith))
-        (omega arith) c
+        within (Compute op d x y rest) (omega arith) (set_local d z locals) rest rests (rw (e, f, g, lt) refl) c
 
-    if_true : {cond : Cond} {x y : LowSource} {one other rest : Code} (u v : ℕ) → word_of locals x ≡ Some u
-        → word_of locals y ≡ Some v → holds cond u v ≡ true
-        → Within b price (St count locals one (rest ∷ rests) waiting (heap m))
+    -- to one branch or the other
+    branches : {cond : Cond} {x y : LowSource} {one other rest : Code} (test : Bool) (u v : ℕ)
+        → word_of locals x ≡ Some u → word_of locals y ≡ Some v → holds cond u v ≡ test
+        → Within b price (St count locals (if test then one else other) (rest ∷ rests) waiting (heap m))
         → Within (suc b) (step_price setting.procs count (If cond x y one other rest) + price)
         (St count locals (If cond x y one other rest) rests waiting (heap m))
-    if_true {cond = cond} {x = x} {y = y} {one = one} {other = other} {rest = rest} u v e f g c =
-        step (St count locals (If cond x y one other rest) rests waiting (heap m))
-        (St count locals one (rest ∷ rests) waiting (heap m)) (rw (e, f, g) refl)
-        (way count locals (If cond x y one other rest) rests waiting m s.words same (omega arith) room (omega arith))
-        (omega arith) c
-
-    if_false : {cond : Cond} {x y : LowSource} {one other rest : Code} (u v : ℕ) → word_of locals x ≡ Some u
-        → word_of locals y ≡ Some v → holds cond u v ≡ false
-        → Within b price (St count locals other (rest ∷ rests) waiting (heap m))
-        → Within (suc b) (step_price setting.procs count (If cond x y one other rest) + price)
-        (St count locals (If cond x y one other rest) rests waiting (heap m))
-    if_false {cond = cond} {x = x} {y = y} {one = one} {other = other} {rest = rest} u v e f g c =
-        step (St count locals (If cond x y one other rest) rests waiting (heap m))
-        (St count locals other (rest ∷ rests) waiting (heap m)) (rw (e, f, g) refl)
-        (way count locals (If cond x y one other rest) rests waiting m s.words same (omega arith) room (omega arith))
-        (omega arith) c
+    branches {cond = cond} {x = x} {y = y} {one = one} {other = other} {rest = rest} true u v e f g c =
+        within (If cond x y one other rest) (omega arith) locals one (rest ∷ rests) (rw (e, f, g) refl) c
+    branches {cond = cond} {x = x} {y = y} {one = one} {other = other} {rest = rest} false u v e f g c =
+        within (If cond x y one other rest) (omega arith) locals other (rest ∷ rests) (rw (e, f, g) refl) c
 
     stores : {x y : LowSource} {rest : Code} (u v : ℕ) → word_of locals x ≡ Some v → word_of locals y ≡ Some u
         → may_store setting.region setting.top u ≡ true → u < 2 ^ 64
@@ -193,6 +189,18 @@ module _ {V : Type 0} (reading : Halt → Ending V) (setting : Setting) (s : Low
     pub below : Below s m
     pub head : HasWord m s.alloc (vector_header n)
     pub each : (j : ℕ) → j < i → HasWord m (s.alloc + 8 + 8 * j) w
+
+  -- what is done once there is room
+  abbrev filling : Code
+  filling =
+      Compute Sll 4 (Word 0) (Number count_bits) (
+      Compute Add 4 (Word 4) (Number (kind_number Vector)) (
+      Store (Word 4) (Word 3) 0 (
+      Compute Add 4 (Word 3) (Number 8) (
+      Compute Sll 5 (Word 0) (Number word_shift) (
+      Compute Add 5 (Word 4) (Word 5) (
+      Call 4 own (Word 4 ∷ Word 5 ∷ Word 1 ∷ []) (
+      Take (Word 2) (Return (Word 3)))))))))
 
   -- where there is room
   module _ (room : s.alloc + 8 * (n + 1) ≤ setting.top) where
@@ -246,7 +254,7 @@ module _ {V : Type 0} (reading : Halt → Ending V) (setting : Setting) (s : Low
         } ∷ s.waiting in
         let asks = bind 0 ((s.alloc + 8 + 8 * i) ∷ (s.alloc + 8 + 8 * n) ∷ w ∷ []) no_locals in
         more
-        (if_false m h.below (omega arith) (s.alloc + 8 + 8 * i) (s.alloc + 8 + 8 * n) refl refl
+        (branches m h.below (omega arith) false (s.alloc + 8 + 8 * i) (s.alloc + 8 + 8 * n) refl refl
         (not_false _ (eq_true (s.alloc + 8 + 8 * i) (s.alloc + 8 + 8 * n) same))
         (step (St 3 asks (Return (Number 0)) (Done ∷ []) waiting (heap m))
         (St count (set_local 4 0 locals) rest rests s.waiting (heap m)) (rw (lt) refl)
@@ -267,7 +275,7 @@ module _ {V : Type 0} (reading : Halt → Ending V) (setting : Setting) (s : Low
         omega (arith, end_small, inside) in
         let asks' : Locals = set_local 0 (s.alloc + 8 + 8 * suc i) asks in
         more
-        (if_true m h.below (omega arith) (s.alloc + 8 + 8 * i) (s.alloc + 8 + 8 * n) refl refl
+        (branches m h.below (omega arith) true (s.alloc + 8 + 8 * i) (s.alloc + 8 + 8 * n) refl refl
         (not_true _ (eq_false (s.alloc + 8 + 8 * i) (s.alloc + 8 + 8 * n) (λ e. omega (arith, e, inside))))
         (stores m h.below (omega arith) (s.alloc + 8 + 8 * i) w refl refl
         (may_be_stored setting.region setting.top (s.alloc + 8 + 8 * i) (omega (arith, even))
@@ -317,15 +325,7 @@ module _ {V : Type 0} (reading : Halt → Ending V) (setting : Setting) (s : Low
 
     filled_in : (rests : List Code)
         → Within (4 * n + 10) (61 * n + 89) (St 6 (set_local 3 s.alloc (set_local 2 (n + 1) (bind 0
-        (n ∷ w ∷ []) no_locals))) (
-        Compute Sll 4 (Word 0) (Number 32) (
-        Compute Add 4 (Word 4) (Number 6) (
-        Store (Word 4) (Word 3) 0 (
-        Compute Add 4 (Word 3) (Number 8) (
-        Compute Sll 5 (Word 0) (Number 3) (
-        Compute Add 5 (Word 4) (Word 5) (
-        Call 4 own (Word 4 ∷ Word 5 ∷ Word 1 ∷ []) (
-        Take (Word 2) (Return (Word 3)))))))))) rests s.waiting (heap s.memory))
+        (n ∷ w ∷ []) no_locals))) filling rests s.waiting (heap s.memory))
     filled_in rests =
         let few : n < 2 ^ 32 = omega (arith, room, narrow, above) in
         let head = vector_header n in
@@ -382,54 +382,24 @@ module _ {V : Type 0} (reading : Halt → Ending V) (setting : Setting) (s : Low
       not_below (Positive lt is e) = e
       not_below (Negative m ge sum is e) = absurd (omega (arith, ge, positive))
 
-      rest_code : Code
-      rest_code =
-          Compute Sll 4 (Word 0) (Number 32) (
-          Compute Add 4 (Word 4) (Number 6) (
-          Store (Word 4) (Word 3) 0 (
-          Compute Add 4 (Word 3) (Number 8) (
-          Compute Sll 5 (Word 0) (Number 3) (
-          Compute Add 5 (Word 4) (Word 5) (
-          Call 4 own (Word 4 ∷ Word 5 ∷ Word 1 ∷ []) (
-          Take (Word 2) (Return (Word 3)))))))))
-
       requested : (rests : List Code)
-          → Within (4 * n + 11) (61 * n + 105) (St 6 (set_local 2 (n + 1) (bind 0 (n ∷ w ∷ []) no_locals)) (Request 3
-          (Word 2) (
-          Compute Sll 4 (Word 0) (Number 32) (
-          Compute Add 4 (Word 4) (Number 6) (
-          Store (Word 4) (Word 3) 0 (
-          Compute Add 4 (Word 3) (Number 8) (
-          Compute Sll 5 (Word 0) (Number 3) (
-          Compute Add 5 (Word 4) (Word 5) (
-          Call 4 own (Word 4 ∷ Word 5 ∷ Word 1 ∷ []) (
-          Take (Word 2) (Return (Word 3))))))))))) rests s.waiting (heap s.memory))
+          → Within (4 * n + 11) (61 * n + 105) (St 6 (set_local 2 (n + 1) (bind 0 (n ∷ w ∷ []) no_locals))
+          (Request 3 (Word 2) filling) rests s.waiting (heap s.memory))
       requested rests = by_room (le_cases (nat_le (s.alloc + 8 * (n + 1)) setting.top))
         where
           locals : Locals
           locals = set_local 2 (n + 1) (bind 0 (n ∷ w ∷ []) no_locals)
 
-          code : Code
-          code =
-              Compute Sll 4 (Word 0) (Number 32) (
-              Compute Add 4 (Word 4) (Number 6) (
-              Store (Word 4) (Word 3) 0 (
-              Compute Add 4 (Word 3) (Number 8) (
-              Compute Sll 5 (Word 0) (Number 3) (
-              Compute Add 5 (Word 4) (Word 5) (
-              Call 4 own (Word 4 ∷ Word 5 ∷ Word 1 ∷ []) (
-              Take (Word 2) (Return (Word 3)))))))))
-
           t0 : LowState
-          t0 = St 6 locals (Request 3 (Word 2) code) rests s.waiting (heap s.memory)
+          t0 = St 6 locals (Request 3 (Word 2) filling) rests s.waiting (heap s.memory)
 
           refused : LowState
-          refused = St 6 locals code rests s.waiting
+          refused = St 6 locals filling rests s.waiting
               (record { memory = s.memory; alloc = s.alloc; words = s.words + (n + 1) })
 
           first_way : P t0
           first_way =
-              way 6 locals (Request 3 (Word 2) code) rests s.waiting s.memory s.words untouched (omega arith)
+              way 6 locals (Request 3 (Word 2) filling) rests s.waiting s.memory s.words untouched (omega arith)
               (omega arith) (omega arith)
 
           by_room : (nat_le (s.alloc + 8 * (n + 1)) setting.top ≡ true)
@@ -437,7 +407,8 @@ module _ {V : Type 0} (reading : Halt → Ending V) (setting : Setting) (s : Low
               → Within (4 * n + 11) (61 * n + 105) t0
           by_room (inl r) =
               more
-              (step t0 (St 6 (set_local 3 s.alloc locals) code rests s.waiting (heap s.memory)) (rw (r) refl) first_way
+              (step t0 (St 6 (set_local 3 s.alloc locals) filling rests s.waiting (heap s.memory)) (rw (r) refl)
+              first_way
               (le_refl (16 + (61 * n + 89))) (filled_in (grind (arith, r)) rests)) (omega arith) (omega arith)
           by_room (inr r) = record {
             steps = 1;
@@ -448,7 +419,7 @@ module _ {V : Type 0} (reading : Halt → Ending V) (setting : Setting) (s : Low
             reach =
                 by_step N P Q 0 t0 (Stop (reading (Lacks Region)) refused) (rw (r) refl) first_way
                 (subst (λ x. Onward (Stop x refused) P Q) (sym exhausts)
-                (way 6 locals code rests s.waiting s.memory (s.words + (n + 1)) untouched (omega arith) (omega arith)
+                (way 6 locals filling rests s.waiting s.memory (s.words + (n + 1)) untouched (omega arith) (omega arith)
                 (le_refl (s.words + (n + 1)))));
           }
 
@@ -456,7 +427,8 @@ module _ {V : Type 0} (reading : Halt → Ending V) (setting : Setting) (s : Low
           (heap s.memory))
       begun =
           more
-          (if_false s.memory untouched (omega arith) n 0 refl refl (not_below (signed n (omega (arith, positive))))
+          (branches s.memory untouched (omega arith) false n 0 refl refl
+          (not_below (signed n (omega (arith, positive))))
           (computes s.memory untouched (omega arith) n 1 (n + 1) refl refl (add_is n 1 (omega (arith, positive))) refl
           (requested _)))
           (omega arith) (omega arith)

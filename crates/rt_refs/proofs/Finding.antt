@@ -1,6 +1,6 @@
 -- The cell behind a proxy, or without one, the part of the proxy's coercion, and an index that is none of the cell's.
 use Rattle.std.proofs.Common.{◌≡◌, ◌⊎◌, inl, inr, ℕ, suc, ◌+◌, ◌*◌, ◌<◌, ◌≤◌, false}
-use Rattle.std.proofs.Common.{List, [], ◌∷◌, length, Some, refl, ap, subst, arith, le_refl}
+use Rattle.std.proofs.Common.{List, [], ◌∷◌, length, Some, refl, ap, subst, arith}
 use Rattle.std.specs.Prelude.{◌==◌}
 use Rattle.grift_base.specs.EnvironmentCall.{environment_call}
 use Rattle.grift_base.specs.declared.verdicts.Trap.TheVariants.{Index}
@@ -18,10 +18,12 @@ use Rattle.coercion_norm.specs.MergedMode.{part_at, cell_coercion}
 use Rattle.coercion_norm.specs.Objects.{Object, Cell}
 use Rattle.coercion_norm.specs.Held.{Layout, Held, height_in}
 use Rattle.coercion_norm.specs.ObjectsOfRows.{header, kind_number}
+use Rattle.rt_cast.specs.Words.{kind_mask}
 use Rattle.rt_cast.specs.WholeObjects.{IsSolid}
 use Rattle.rt_cast.specs.States.{Grows, Heap, Fine, IsReady, around, heap_of, st}
 use Rattle.rt_cast.specs.MergedValues.{Merged, Base, Solid, Proxied, InDyn}
 use Rattle.rt_cast.specs.Carried.{CarriedBy, IsLow}
+use Rattle.rt_cast.proofs.Public.{arrives}
 use Rattle.rt_cast.proofs.Public.{Walk, none_some, same_some, eq_true, eq_false, kind_read, count_read, not_zero}
 use Rattle.rt_cast.proofs.Public.{Budget, More, at_most, WordThere, loads, loads_at, computes, sets_word, if_true}
 use Rattle.rt_cast.proofs.Public.{if_false, header_there, ReachedIn, End, lt_false, walk as walk_from}
@@ -114,7 +116,7 @@ module _ {V : Type 0} (walk : Walk V) (low : walk.l.tallest ≤ 65534) (A : Type
         let head0 = header cell.kind 0 (length ws) in
         at_most walk
         (loads_at walk objects fine wv head0 wv_is (cell_header wv cell) refl
-        (computes walk objects fine head0 255 cell.kind refl refl (kind_read cell.kind 0 (length ws) z.0) refl
+        (computes walk objects fine head0 kind_mask cell.kind refl refl (kind_read cell.kind 0 (length ws) z.0) refl
         (if_false walk objects fine cell.kind 2 refl refl z.1
         (sets_word walk objects fine 0 refl refl
         (ends_branch walk objects fine
@@ -131,7 +133,7 @@ module _ {V : Type 0} (walk : Walk V) (low : walk.l.tallest ≤ 65534) (A : Type
         let ws2 = hv.0 ∷ hv.1 ∷ [] in
         at_most walk
         (loads walk objects fine wv proxy_header ws2 0 proxy_header wv_is hv.2 refl refl refl
-        (computes walk objects fine proxy_header 255 2 refl refl (kind_read 2 0 2 (omega arith)) refl
+        (computes walk objects fine proxy_header kind_mask 2 refl refl (kind_read 2 0 2 (omega arith)) refl
         (if_true walk objects fine 2 2 refl refl refl
         (loads walk objects fine wv proxy_header ws2 2 hv.1 wv_is hv.2 refl refl refl
         (loads walk objects fine wv proxy_header ws2 1 hv.0 wv_is hv.2 refl refl refl
@@ -221,23 +223,15 @@ module _ {V : Type 0} (reading : Halt → Ending V) (setting : Setting) (l : Lay
     where
       last : (rests' : List Code)
           → ReachedIn trapping End (st (around s) 6 locals trap_index rests' s.waiting (heap_of s))
-      last rests' = record {
-        steps = 0;
-        few = le_refl 0;
-        cheap = omega arith;
-        reach = λ spare. (
-          record {
-            room = let p = spare.room in omega (arith, p);
-            asked = let p = spare.left in omega (arith, p);
-          },
-          record {
-            objects = objects;
-            fine = fine;
-            last = _;
-            stops = refl;
-            stays = refl;
-            same = refl;
-            same_after = refl;
-          },
-        );
-      }
+      last rests' = arrives trapping (λ room asked. (
+        record { room = room; asked = asked },
+        record {
+          objects = objects;
+          fine = fine;
+          last = _;
+          stops = refl;
+          stays = refl;
+          same = refl;
+          same_after = refl;
+        },
+      ))

@@ -26,6 +26,7 @@ use Rattle.rt_cast.specs.Procs.{cast_proc}
 use Rattle.rt_cast.specs.States.{Grows, Heap, Fine, OnTheWay, Within, IsReady, around, heap_of, st}
 use Rattle.rt_cast.specs.MergedValues.{Merged, Outcome, Stuck, Gives, Blames, cast_value}
 use Rattle.rt_cast.specs.Carried.{CarriedBy, AreCarried, IsLow, BlamesAt}
+use Rattle.rt_cast.proofs.Public.{arrives, counted, blames_at}
 use Rattle.rt_cast.proofs.Public.{Walk, walk, eq_true, eq_false, lt_true, End, More, at_most, loads, if_true, if_false}
 use Rattle.rt_cast.proofs.Public.{calls, ReachedIn, grows_on, held_still}
 use Rattle.rt_refs.specs.CallCodes.{argument_words, call_function, cast_arguments}
@@ -139,50 +140,42 @@ module _ {V : Type 0} (reading : Halt → Ending V) (setting : Setting) (l : Lay
           let locals2 = set_local 11 p.0 locals in
           let last : ReachedIn w End (st (around t) 13 locals2 (CallAt 12 (Word 10)
           (Word 8 ∷ argument_words number 0) (TailCall (cast first) (Word 12 ∷ Word 11 ∷ []))) rests s.waiting h) =
-          record {
-            steps = 0;
-            few = le_refl 0;
-            cheap = omega arith;
-            reach = λ spare. (
-              record {
-                room = let q = spare.room in omega (arith, q);
-                asked = let q = spare.left in omega (arith, q);
-              },
-              record {
-                new = objects;
-                grows = grows;
-                fine = fine;
-                own = function;
-                words = done;
-                function = hf;
-                arguments = hp;
-                d = 12;
-                at = Word 10;
-                sources = Word 8 ∷ argument_words number 0;
-                rest = TailCall (cast first) (Word 12 ∷ Word 11 ∷ []);
+          arrives w (λ room asked. (
+            record { room = room; asked = asked },
+            record {
+              new = objects;
+              grows = grows;
+              fine = fine;
+              own = function;
+              words = done;
+              function = hf;
+              arguments = hp;
+              d = 12;
+              at = Word 10;
+              sources = Word 8 ∷ argument_words number 0;
+              rest = TailCall (cast first) (Word 12 ∷ Word 11 ∷ []);
+              is = refl;
+              enters = found.address_is;
+              handed =
+                  ap₂ and_more found.function_is
+                  (subst (λ n. words_of locals2 (argument_words n 0) ≡ Some done) long
+                  (has_words locals2 0 done
+                  (has_below 11 p.0 locals 0 done (omega (arith, long, few)) has)));
+              resumes = record {
+                place = 11;
+                word = p.0;
+                code = refl;
+                other = refl;
                 is = refl;
-                enters = found.address_is;
-                handed =
-                    ap₂ and_more found.function_is
-                    (subst (λ n. words_of locals2 (argument_words n 0) ≡ Some done) long
-                    (has_words locals2 0 done
-                    (has_below 11 p.0 locals 0 done (omega (arith, long, few)) has)));
-                resumes = record {
-                  place = 11;
-                  word = p.0;
-                  code = refl;
-                  other = refl;
-                  is = refl;
-                  held = p.2;
-                  low = part_low w low A IsHeld still is_solid FunKind parts number result whole at_end;
-                  room = omega arith;
-                  small = omega arith;
-                };
-                waits = refl;
-                same = same;
-              },
-            );
-          } in
+                held = p.2;
+                low = part_low w low A IsHeld still is_solid FunKind parts number result whole at_end;
+                room = omega arith;
+                small = omega arith;
+              };
+              waits = refl;
+              same = same;
+            },
+          )) in
           at_most w
           (loads w objects here coercion head9 hc.0 (suc number) p.0 found.coercion_is hc.1 p.1 (omega arith) refl last)
           (omega arith, omega arith, omega arith, omega arith)
@@ -190,12 +183,7 @@ module _ {V : Type 0} (reading : Halt → Ending V) (setting : Setting) (l : Lay
       -- from where all are cast
       ends : (t : LowState) (pre : List (Merged A)) → t.waiting ≡ s.waiting → t.active.count ≤ 24
           → ReachedIn (from t (Calls pre) 0) (More 2 0 0 17 End) t → Stretch reading setting l t 2 deep 0 17 (Calls pre)
-      ends t pre waits small z = (
-        z.steps,
-        (let g = z.few in omega (arith, g)),
-        z.reach (record { room = omega arith; left = omega arith }),
-        let c = z.cheap in omega (arith, c),
-      )
+      ends t pre waits small z = counted (from t (Calls pre) 0) z (omega arith) (omega arith)
 
       -- where so many are cast, and the others are not
       abbrev pub top : Locals → List Code → ℕ → ℕ → Heap → LowState
@@ -230,12 +218,8 @@ module _ {V : Type 0} (reading : Halt → Ending V) (setting : Setting) (l : Lay
           (cast_words_of l d v) (52 + cast_price_of l d v)
           (OneCast (top locals rests (suc j) k h) objects (set_local 11 part locals) rests j k
           (cast_value (heads k) l.types d v))
-      one_cast objects h fine locals rests j k small other d ld v word part found next hv hc at_k hd some = (
-        z.steps,
-        (let g = z.few in omega (arith, g)),
-        z.reach (record { room = omega arith; left = omega arith }),
-        let c = z.cheap in omega (arith, c),
-      )
+      one_cast objects h fine locals rests j k small other d ld v word part found next hv hc at_k hd some =
+          counted w z (omega arith) (omega arith)
         where
           t : LowState
           t = top locals rests (suc j) k h
@@ -258,61 +242,34 @@ module _ {V : Type 0} (reading : Halt → Ending V) (setting : Setting) (l : Lay
           values : (y : Merged A) → o ≡ Gives y → (new : List Object) (h' : Heap) (x : ℕ) → Grows objects new
               → Fine setting l (around t) new h' → CarriedBy l IsHeld new y x
               → ReachedIn w End (top (set_local (suc k) x l11) (Done ∷ rests) j (suc k) h')
-          values y e new h' x grows fine' hx = record {
-            steps = 0;
-            few = le_refl 0;
-            cheap = omega arith;
-            reach = λ spare. (
-              record {
-                room = let q = spare.room in omega (arith, q);
-                asked = let q = spare.left in omega (arith, q);
-              },
-              inl (record {
-                value = y;
-                gives = e;
-                new = new;
-                grows = grows;
-                heap = h';
-                fine = fine';
-                word = x;
-                carried = hx;
-                is = refl;
-              }),
-            );
-          }
+          values y e new h' x grows fine' hx = arrives w (λ room asked. (
+            record { room = room; asked = asked },
+            inl (record {
+              value = y;
+              gives = e;
+              new = new;
+              grows = grows;
+              heap = h';
+              fine = fine';
+              word = x;
+              carried = hx;
+              is = refl;
+            }),
+          ))
 
           blames : (label : ℕ) → o ≡ Blames label
               → Goes w low A IsHeld still is_solid End objects s.waiting (Blames label)
-          blames label e = λ new h' count locals2 rests2 waiting a b d2 e2 rest grows fine' ea eb ld2 le2. record {
-            steps = 0;
-            few = le_refl 0;
-            cheap = omega arith;
-            reach = λ spare. (
-              record {
-                room = let q = spare.room in omega (arith, q);
-                asked = let q = spare.left in omega (arith, q);
-              },
-              inr (
-                label,
-                e,
-                record {
-                  new = new;
-                  fine = fine';
-                  a = a;
-                  b = b;
-                  d = d2;
-                  e = e2;
-                  rest = rest;
-                  code = refl;
-                  is = ea;
-                  other = eb;
-                  first = ld2;
-                  second = le2;
-                  same = refl;
-                },
-              ),
-            );
-          }
+          blames label e =
+              λ new h' count locals2 rests2 waiting a b d2 e2 rest grows fine' ea eb ld2 le2.
+              arrives w (λ room asked. (
+                record { room = room; asked = asked },
+                inr (
+                  label,
+                  e,
+                  blames_at setting l t IsHeld objects label new h' count locals2 rests2 waiting a b d2 e2 rest
+                      fine' ea eb ld2 le2,
+                ),
+              ))
 
           head9 : ℕ
           head9 = header 9 (coercion_height (height_in l) (Middle FunKind parts)) (length hc.0)

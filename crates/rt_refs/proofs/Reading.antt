@@ -1,6 +1,6 @@
 -- What read comes to, from a state in which whole objects fill the region.
 use Rattle.std.proofs.Common.{◌≡◌, ℕ, ◌+◌, ◌*◌, ◌≤◌, false}
-use Rattle.std.proofs.Common.{List, [], ◌∷◌, length, Some, refl, ap, arith, le_refl}
+use Rattle.std.proofs.Common.{List, [], ◌∷◌, length, Some, refl, ap, arith}
 use Rattle.std.specs.Prelude.{◌==◌, slice_get}
 use Rattle.grift_base.specs.Types.{TypeHead}
 use Rattle.grift_base.specs.declared.verdicts.Trap.TheVariants.{Index}
@@ -14,6 +14,7 @@ use Rattle.coercion_norm.specs.Coercions.{Coercion}
 use Rattle.coercion_norm.specs.Objects.{Object}
 use Rattle.coercion_norm.specs.ObjectsOfRows.{header}
 use Rattle.coercion_norm.specs.Held.{Layout, rows_in}
+use Rattle.rt_cast.specs.Words.{kind_mask}
 use Rattle.rt_cast.specs.WholeObjects.{IsSolid}
 use Rattle.rt_cast.specs.Costs.{cast_cost}
 use Rattle.rt_cast.specs.LightCasts.{cast_words_of, cast_price_of}
@@ -22,6 +23,7 @@ use Rattle.rt_cast.specs.Procs.{cast_proc}
 use Rattle.rt_cast.specs.States.{Grows, Fine, Filled, IsReady, around, heap_of, st}
 use Rattle.rt_cast.specs.MergedValues.{Merged, Outcome, Stuck, cast_value}
 use Rattle.rt_cast.specs.Carried.{CarriedBy, ComesTo}
+use Rattle.rt_cast.proofs.Public.{arrives, counted}
 use Rattle.rt_cast.proofs.Public.{Walk, lt_true, End, More, at_most, loads_at, computes, if_true, if_false}
 use Rattle.rt_cast.proofs.Public.{tail_calls, ReachedIn, at_first, walk, apply, no_higher, by_either, low_of}
 use Rattle.rt_cast.proofs.Public.{decided_cast, ends, kind_read, count_read, none_some, same_some, WordThere}
@@ -66,12 +68,7 @@ module _ {V : Type 0} (reading : Halt → Ending V) (setting : Setting) (l : Lay
       (ComesTo l setting s IsHeld objects r) (cast_cost l.width l.tallest + 17) (4 * l.tallest + 6)
       (cast_words_of l d x) (cast_price_of l d x + 148)
   reads d behind which i word other got x hx r e some =
-      let z = begun in (
-        z.steps,
-        (let g = z.few in omega arith),
-        z.reach (record { room = omega arith; left = omega arith }),
-        let c = z.cheap in omega (arith, c),
-      )
+      counted v begun (omega arith) (omega arith)
     where
       v : Walk V
       v = walk reading setting l first s exhausts ready (ComesTo l setting s IsHeld objects r) (4 * l.tallest + 6)
@@ -121,12 +118,7 @@ module _ {V : Type 0} (reading : Halt → Ending V) (setting : Setting) (l : Lay
       → ComesWhere reading setting l s (read_proc (cast first)) (which ∷ wv ∷ i ∷ [])
       (TrapsAt reading setting l s Index) 10 0 0 73
   outside_reads stands which i other outside =
-      let z = begun in (
-        z.steps,
-        (let g = z.few in omega arith),
-        z.reach (record { room = omega arith; left = omega arith }),
-        let c = z.cheap in omega (arith, c),
-      )
+      counted v begun (omega arith) (omega arith)
     where
       v : Walk V
       v = walk reading setting l first s exhausts ready (TrapsAt reading setting l s Index) 0 0
@@ -163,18 +155,11 @@ module _ {V : Type 0} (reading : Halt → Ending V) (setting : Setting) (l : Lay
       s.waiting (heap_of s))
   told wa locals rests cell head0 kind is few e4 =
       let last : ReachedIn q End (st (around s) 6 (set_local 4 (length ws) locals) (Return (Word 4)) rests s.waiting
-      (heap_of s)) = record {
-        steps = 0;
-        few = le_refl 0;
-        cheap = omega arith;
-        reach = λ spare. (
-          record {
-            room = let p = spare.room in omega (arith, p);
-            asked = let p = spare.left in omega (arith, p);
-          },
-          record { fine = fine_here; source = Word 4; code = refl; is = refl; waits = refl; same = refl },
-        );
-      } in
+      (heap_of s)) =
+      arrives q (λ room asked. (
+        record { room = room; asked = asked },
+        record { fine = fine_here; source = Word 4; code = refl; is = refl; waits = refl; same = refl },
+      )) in
       at_most q
       (computes q objects fine_here head0 32 (length ws) e4 refl
       (ap (λ x. compute Srl x 32) is ∙ count_read kind 0 (length ws) (omega (arith, few)) (omega arith)) refl last)
@@ -201,15 +186,10 @@ module _ {V : Type 0} (reading : Halt → Ending V) (setting : Setting) (l : Lay
       at_most q
       (if_true q objects fine_here 2 2 refl refl refl
       (loads_at q objects fine_here wv head0 refl (at_header wv here) refl
-      (computes q objects fine_here head0 255 here.kind refl refl (kind_read here.kind 0 (length ws) z.0) refl
+      (computes q objects fine_here head0 kind_mask here.kind refl refl (kind_read here.kind 0 (length ws) z.0) refl
       (if_false q objects fine_here here.kind 2 refl refl z.1
       (ends_branch q objects fine_here (told wv _ _ here head0 here.kind refl z.0 refl))))))
-      (omega arith, omega arith, omega arith, omega arith) in (
-        r.steps,
-        (let g = r.few in omega arith),
-        r.reach (record { room = omega arith; left = omega arith }),
-        let c = r.cheap in omega (arith, c),
-      )
+      (omega arith, omega arith, omega arith, omega arith) in counted q r (omega arith) (omega arith)
   lengths (Proxied b c) wv hv a e cell i =
       let here = cell hv.0 (subst (λ x. IsHeld objects x hv.0) (same_some b a e) hv.3) in
       let z = one_kind here.kind here.one in
@@ -220,14 +200,9 @@ module _ {V : Type 0} (reading : Halt → Ending V) (setting : Setting) (l : Lay
       at_most q
       (if_true q objects fine_here 2 2 refl refl refl
       (loads q objects fine_here wv proxy_header ws2 0 proxy_header refl hv.2 refl refl refl
-      (computes q objects fine_here proxy_header 255 2 refl refl (kind_read 2 0 2 (omega arith)) refl
+      (computes q objects fine_here proxy_header kind_mask 2 refl refl (kind_read 2 0 2 (omega arith)) refl
       (if_true q objects fine_here 2 2 refl refl refl
       (loads q objects fine_here wv proxy_header ws2 1 hv.0 refl hv.2 refl refl refl
       (loads_at q objects fine_here hv.0 head0 refl (at_header hv.0 here) refl
       (ends_branch q objects fine_here (told hv.0 _ _ here head0 here.kind refl z.0 refl))))))))
-      (omega arith, omega arith, omega arith, omega arith) in (
-        r.steps,
-        (let g = r.few in omega arith),
-        r.reach (record { room = omega arith; left = omega arith }),
-        let c = r.cheap in omega (arith, c),
-      )
+      (omega arith, omega arith, omega arith, omega arith) in counted q r (omega arith) (omega arith)

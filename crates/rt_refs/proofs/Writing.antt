@@ -1,6 +1,6 @@
 -- What write comes to, from a state in which whole objects fill the region.
 use Rattle.std.proofs.Common.{◌≡◌, inl, inr, ℕ, ◌+◌, ◌*◌, ◌^◌, ◌<◌, ◌≤◌, Bool, true, false}
-use Rattle.std.proofs.Common.{List, [], ◌∷◌, length, Some, refl, sym, ap, ap₂, ◌∙◌, subst, arith, le_refl}
+use Rattle.std.proofs.Common.{List, [], ◌∷◌, length, Some, refl, sym, ap, ap₂, ◌∙◌, subst, arith}
 use Rattle.std.specs.Prelude.{◌==◌, slice_get}
 use Rattle.grift_base.specs.Types.{TypeHead}
 use Rattle.grift_base.specs.declared.verdicts.Trap.TheVariants.{Index}
@@ -23,6 +23,7 @@ use Rattle.rt_cast.specs.Procs.{cast_proc}
 use Rattle.rt_cast.specs.States.{Grows, Heap, Fine, Filled, IsReady, Within, around, heap_of, st}
 use Rattle.rt_cast.specs.MergedValues.{Merged, Outcome, Stuck, Gives, Blames, cast_value}
 use Rattle.rt_cast.specs.Carried.{CarriedBy}
+use Rattle.rt_cast.proofs.Public.{arrives, counted, blames_at}
 use Rattle.rt_cast.proofs.Public.{Walk, lt_true, End, More, at_most, computes, if_true, if_false, calls}
 use Rattle.rt_cast.proofs.Public.{ReachedIn, at_first, walk, holds_stored, holds_same}
 use Rattle.rt_refs.specs.CellCodes.{write_code, write_proc, write_element, test_index, find_element}
@@ -125,35 +126,27 @@ module _ {V : Type 0} (reading : Halt → Ending V) (setting : Setting) (l : Lay
 
     written : (locals : Locals) (rests : List Code)
         → ReachedIn w End (st (around s) 6 locals (Return (Number 0)) rests s.waiting after)
-    written locals rests = record {
-      steps = 0;
-      few = le_refl 0;
-      cheap = omega arith;
-      reach = λ spare. (
-        record {
-          room = let p = spare.room in omega (arith, p);
-          asked = let p = spare.left in omega (arith, p);
-        },
-        subst (λ z. WriteComes setting l s IsHeld objects a i z
-            (st (around s) 6 locals (Return (Number 0)) rests s.waiting after)) (sym q) (record {
-              new = new;
-              grows = grows;
-              filled = filled_after;
-              before = h';
-              fine = fine';
-              cell = wa;
-              held = ha;
-              word = word';
-              carried = hy;
-              memory = refl;
-              source = Number 0;
-              code = refl;
-              is = refl;
-              waits = refl;
-              same = refl;
-            }),
-      );
-    }
+    written locals rests = arrives w (λ room asked. (
+      record { room = room; asked = asked },
+      subst (λ z. WriteComes setting l s IsHeld objects a i z
+          (st (around s) 6 locals (Return (Number 0)) rests s.waiting after)) (sym q) (record {
+            new = new;
+            grows = grows;
+            filled = filled_after;
+            before = h';
+            fine = fine';
+            cell = wa;
+            held = ha;
+            word = word';
+            carried = hy;
+            memory = refl;
+            source = Number 0;
+            code = refl;
+            is = refl;
+            waits = refl;
+            same = refl;
+          }),
+    ))
 
     stored : (locals : Locals) (rests : List Code) → locals 1 ≡ Some wa → locals 2 ≡ Some i → locals 3 ≡ Some word'
         → ReachedIn w (More 3 0 0 12 End) (st (around s) 6 locals store_code rests s.waiting h')
@@ -192,42 +185,19 @@ module _ {V : Type 0} (reading : Halt → Ending V) (setting : Setting) (l : Lay
         (st (around s) 6 (start which i word) (write_code (cast first)) [] s.waiting (heap_of s))
 
     done : begun → Writes
-    done z = (
-      z.steps,
-      (let g = z.few in omega arith),
-      z.reach (record { room = omega arith; left = omega arith }),
-      let c = z.cheap in omega (arith, c),
-    )
+    done z = counted v z (omega arith) (omega arith)
 
     blames : (label : ℕ) → r ≡ Blames label
         → Goes v low A IsHeld still is_solid End objects s.waiting (Blames label)
-    blames label q = λ new h' count locals rests waiting aa b dd e' rest grows fine' ea eb ld le. record {
-      steps = 0;
-      few = le_refl 0;
-      cheap = omega arith;
-      reach = λ spare. (
-        record {
-          room = let p = spare.room in omega (arith, p);
-          asked = let p = spare.left in omega (arith, p);
-        },
-        subst (λ y. WriteComes setting l s IsHeld objects a i y
-            (st (around s) count locals (Environment 3 aa b dd e' rest) rests waiting h')) (sym q) (record {
-              new = new;
-              fine = fine';
-              a = aa;
-              b = b;
-              d = dd;
-              e = e';
-              rest = rest;
-              code = refl;
-              is = ea;
-              other = eb;
-              first = ld;
-              second = le;
-              same = refl;
-            }),
-      );
-    }
+    blames label q =
+        λ new h' count locals rests waiting aa b dd e' rest grows fine' ea eb ld le.
+        arrives v (λ room asked. (
+          record { room = room; asked = asked },
+          subst (λ y. WriteComes setting l s IsHeld objects a i y
+              (st (around s) count locals (Environment 3 aa b dd e' rest) rests waiting h')) (sym q)
+              (blames_at setting l s IsHeld objects label new h' count locals rests waiting aa b dd e' rest fine' ea
+              eb ld le),
+        ))
 
     -- an index is one of the cell's where there is something to store
     module _ (inside : (y : Merged A) → r ≡ Gives y → i < length ws) where
@@ -333,12 +303,7 @@ module _ {V : Type 0} (reading : Halt → Ending V) (setting : Setting) (l : Lay
       → ComesWhere reading setting l s (write_proc (cast first)) (which ∷ wv ∷ i ∷ word ∷ [])
       (TrapsAt reading setting l s Index) 10 0 0 73
   outside_writes stands which i word other outside =
-      let z = begun in (
-        z.steps,
-        (let g = z.few in omega arith),
-        z.reach (record { room = omega arith; left = omega arith }),
-        let c = z.cheap in omega (arith, c),
-      )
+      counted v begun (omega arith) (omega arith)
     where
       v : Walk V
       v = walk reading setting l first s exhausts ready (TrapsAt reading setting l s Index) 0 0
