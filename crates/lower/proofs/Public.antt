@@ -21,6 +21,7 @@ pub use Rattle.lower.proofs.simulation.Services.{kept_in_front}
 pub use Rattle.lower.proofs.words.Credits.{By, by_go, by_weaken}
 pub use Rattle.lower.proofs.words.Steps.{at, Comes, Calm, Goal, N, left_of, here, goes_last, sets_word, computes, loads}
 pub use Rattle.lower.proofs.words.Steps.{stores, if_true, if_false, builds, lt_true}
+pub use Rattle.lower.proofs.words.Standing.{stands_as}
 pub use Rattle.lower.proofs.words.Products.{products_are_served}
 pub use Rattle.lower.proofs.simulation.Fills.{LetsFill, vectors_are_served}
 pub use Rattle.lower.proofs.merging.States.{calls_blame, in_front, element_past}

@@ -4,6 +4,7 @@ pub mod Credits
 pub mod Steps
 pub mod Scene
 pub mod Operands
+pub mod Standing
 pub mod Operations
 pub mod Services
 pub mod Groups

@@ -21,6 +21,7 @@ use Rattle.flat_ir.specs.declared.code.Operand.{Operand}
 use Rattle.flat_ir.specs.declared.code.Operation.{Operation}
 use Rattle.flat_ir.specs.declared.code.Operation.TheVariants.{Move, Prim, Cast, Tuple, Proj, ProjDyn}
 use Rattle.flat_ir.specs.Closed.{operand_bound, operands_bound, operation_bound, part_has_words}
+use Rattle.rt_cast.specs.Words.{kind_mask}
 use Rattle.lower.specs.declared.numbering.Shape.{Shape}
 use Rattle.lower.specs.declared.served.CastWay.{CastWay}
 use Rattle.lower.specs.declared.served.CastWay.TheVariants.{Called, IntoDyn, OutOfDyn}
@@ -59,10 +60,11 @@ module _ (procs : List Proc) (n : ℕ) where
       → Ends procs n a (of_kind s o kind one other k) Q
   of_kind_ends s a o kind one other k R Q l r first second go =
       let t = test_word s in
-      load_ends procs n a t o 0 (Compute And t (Word t) (Number 255) (If Eq (Word t) (Number kind) one other k)) Q l r
+      load_ends procs n a t o 0 (Compute And t (Word t) (Number kind_mask) (If Eq (Word t) (Number kind) one other k))
+      Q l r
       refl
       (λ b m h. let q = read_word procs n b t l h in
-      compute_ends procs n b And t (Word t) (Number 255) (If Eq (Word t) (Number kind) one other k) Q l q refl
+      compute_ends procs n b And t (Word t) (Number kind_mask) (If Eq (Word t) (Number kind) one other k) Q l q refl
       (λ c m' h'. let q' = read_word procs n c t l h' in
       let more = more_then a b c m m' in
       if_ends procs n c Eq (Word t) (Number kind) one other k R Q q' refl (first c more q') (second c more) go))

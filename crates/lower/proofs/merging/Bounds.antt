@@ -30,45 +30,44 @@ price_of_middle v w a b le less =
     let p : 162 + a ≤ 162 + b = omega (arith, less) in
     let z = mul-le-mul le p in omega (arith, z)
 
+-- two bounds by height grow alike
+grows : (f g : ℕ → ℕ) → f 0 ≤ g 0 → ((k : ℕ) → f 0 ≤ g (suc k))
+    → ((h k : ℕ) → h ≤ k → f h ≤ g k → f (suc h) ≤ g (suc k)) → (h k : ℕ) → h ≤ k → f h ≤ g k
+grows f g first low more zero zero le = first
+grows f g first low more zero (suc k) le = low k
+grows f g first low more (suc h) zero le = absurd (omega (arith, le))
+grows f g first low more (suc h) (suc k) le =
+    more h k (omega (arith, le)) (grows f g first low more h k (omega (arith, le)))
+
 coerce_words_grow : (v w h k : ℕ) → v ≤ w → h ≤ k → coerce_words v h ≤ coerce_words w k
-coerce_words_grow v w zero zero le less = omega arith
-coerce_words_grow v w zero (suc k) le less = omega arith
-coerce_words_grow v w (suc h) zero le less = absurd (omega (arith, less))
-coerce_words_grow v w (suc h) (suc k) le less =
-    let ih = coerce_words_grow v w h k le (omega (arith, less)) in
-    let z = words_of_middle v w (coerce_words v h) (coerce_words w k) le ih in
-    omega (arith, z)
+coerce_words_grow v w h k le =
+    grows (coerce_words v) (coerce_words w) (omega arith) (λ k. omega arith)
+    (λ h k less ih. let z = words_of_middle v w (coerce_words v h) (coerce_words w k) le ih in omega (arith, z)) h k
 
 compose_words_grow : (v w h k : ℕ) → v ≤ w → h ≤ k → compose_words v h ≤ compose_words w k
-compose_words_grow v w zero zero le less = omega arith
-compose_words_grow v w zero (suc k) le less =
-    let a = coerce_words_grow v w 0 (suc k) le (omega arith) in omega (arith, a)
-compose_words_grow v w (suc h) zero le less = absurd (omega (arith, less))
-compose_words_grow v w (suc h) (suc k) le less =
-    let a = coerce_words_grow v w (suc h) (suc k) le less in
-    let ih = compose_words_grow v w h k le (omega (arith, less)) in
+compose_words_grow v w h k le =
+    grows (compose_words v) (compose_words w) (omega arith)
+    (λ k. let a = coerce_words_grow v w 0 (suc k) le (omega arith) in omega (arith, a))
+    (λ h k less ih.
+    let a = coerce_words_grow v w (suc h) (suc k) le (omega (arith, less)) in
     let z = words_of_middle v w (compose_words v h) (compose_words w k) le ih in
-    omega (arith, a, z)
+    omega (arith, a, z)) h k
 
 coerce_price_grows : (v w h k : ℕ) → v ≤ w → h ≤ k → coerce_price v h ≤ coerce_price w k
-coerce_price_grows v w zero zero le less = omega arith
-coerce_price_grows v w zero (suc k) le less = omega arith
-coerce_price_grows v w (suc h) zero le less = absurd (omega (arith, less))
-coerce_price_grows v w (suc h) (suc k) le less =
-    let ih = coerce_price_grows v w h k le (omega (arith, less)) in
+coerce_price_grows v w h k le =
+    grows (coerce_price v) (coerce_price w) (omega arith) (λ k. omega arith)
+    (λ h k less ih.
     let z = price_of_middle v w (81 + coerce_price v h) (81 + coerce_price w k) le (omega (arith, ih)) in
-    omega (arith, z)
+    omega (arith, z)) h k
 
 compose_price_grows : (v w h k : ℕ) → v ≤ w → h ≤ k → compose_price v h ≤ compose_price w k
-compose_price_grows v w zero zero le less = omega arith
-compose_price_grows v w zero (suc k) le less =
-    let a = coerce_price_grows v w 0 (suc k) le (omega arith) in omega (arith, a)
-compose_price_grows v w (suc h) zero le less = absurd (omega (arith, less))
-compose_price_grows v w (suc h) (suc k) le less =
-    let a = coerce_price_grows v w (suc h) (suc k) le less in
-    let ih = compose_price_grows v w h k le (omega (arith, less)) in
+compose_price_grows v w h k le =
+    grows (compose_price v) (compose_price w) (omega arith)
+    (λ k. let a = coerce_price_grows v w 0 (suc k) le (omega arith) in omega (arith, a))
+    (λ h k less ih.
+    let a = coerce_price_grows v w (suc h) (suc k) le (omega (arith, less)) in
     let z = price_of_middle v w (77 + compose_price v h) (77 + compose_price w k) le (omega (arith, ih)) in
-    omega (arith, a, z)
+    omega (arith, a, z)) h k
 
 -- ---- half of what a wrap step may ask for
 

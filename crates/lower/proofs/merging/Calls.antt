@@ -55,7 +55,8 @@ use Rattle.lower.proofs.merging.Chains.{stuck_or_not, gives_some, blames_some}
 use Rattle.lower.proofs.merging.Laws.{merged_laws}
 use Rattle.lower.proofs.merging.Like.{Like, solid_head, head_at, like_of, like_wrapped}
 use Rattle.lower.proofs.merging.Stages.{HasRoom, Calm, Stands, Stage, Settled, at_end, begun, settled_calm, calm_as}
-use Rattle.lower.proofs.merging.Stages.{stays, lands_from, by_law, by_stretch}
+use Rattle.lower.proofs.merging.Stages.{stays, lands, by_law, by_law_from}
+use Rattle.lower.proofs.words.Standing.{stands_as}
 use Rattle.lower.proofs.merging.States.{filled_of, filled_as, blame_stops}
 use Rattle.lower.proofs.merging.Turns.{Ends, ends_cast}
 
@@ -214,7 +215,8 @@ module _ (setting : Setting) (l : Layout) (procs : List Proc) (casts : List Type
           0,
           λ t x n credit. (
             refl,
-            lands_from setting l procs casts m s (4 * l.tallest + 7) 0 17 call_leaves (omega arith) t x.0.waits x.0.same
+            lands setting l procs casts m s t x.0.waits x.0.same (4 * l.tallest + 7) 0 17 call_leaves (omega arith) t
+                refl
                 (RtCallsAt l setting first s (IsVery l) objects a address xs e) x.1.0 x.1.2 x.1.3 acting credit
                 (omega arith) (omega arith) n (n + 0)
                 (λ left u. aim (Own (Inside p.body (locals_of values) group)) (CastFrame e ∷ base) store (n + 0) left u)
@@ -370,9 +372,9 @@ module _ (setting : Setting) (l : Layout) (procs : List Proc) (casts : List Type
       -- from where the run is at it
       begins : (t : LowState) → Stands setting l procs casts m s t → InTurn k (d ∷ ds) (x ∷ xs) done t → walk.Ready t
       begins t stands y =
-          by_stretch setting l procs casts m s (total ≡ Stuck) (stuck_or_not total) Comes comes_stands
-          (4 * l.tallest + 7) (cast_words_of l d x) (cast_price_of l d x + 52) (omega arith) t stands
-          y.0.waits y.0.same (λ some. let z = y.1 some in (z.0, z.2, let c = z.3 in omega (arith, c)))
+          by_law_from setting l procs casts m s (total ≡ Stuck) (stuck_or_not total) Comes comes_stands t y.0.waits
+          y.0.same (4 * l.tallest + 7) (cast_words_of l d x) (cast_price_of l d x + 52) (omega arith) t stands refl
+          (λ some. let z = y.1 some in (z.0, z.2, let c = z.3 in omega (arith, c)))
 
       abbrev Later : List (FlatFrame Coercion) → Type 0
       Later frames =
@@ -497,8 +499,8 @@ module _ (setting : Setting) (l : Layout) (procs : List Proc) (casts : List Type
           r.0,
           (
             refl,
-            lands_from setting l procs casts m s (4 * l.tallest + 7) 0 9 0
-                (omega arith) (called_with w ws) refl refl
+            lands setting l procs casts m s (called_with w ws) refl refl (4 * l.tallest + 7) 0 9 0 (omega arith)
+                (called_with w ws) refl
                 (InTurn seen.0 e vs closure.1 0 ds given.0 []) z.0 z.2 z.3 acting 0 (omega arith) (omega arith) number
                 (number + 0)
                 (λ left u. GoesOn seen.0 e vs closure.1 r.0 (Entering v [] (pendings vs ds)) (CastFrame e ∷ base)
@@ -583,16 +585,11 @@ pub merged_calls_made : (setting : Setting) (l : Layout) (procs : List Proc) (ca
     → CallsMade merged_meaning setting l procs casts m run_by
 merged_calls_made setting l procs casts m first run_by measured placed types tallest ready refs number_is = record {
   proc = apply_proc (cast_number first);
-  stands = record {
-    there =
-        let z : how_many_cast_procs + ref_place Apply + first ≡ ref_place Apply + (how_many_cast_procs + first) =
-        omega arith in
-        ap (slice_get setting.procs) (number_is ∙ z) ∙ refs (ref_place Apply) (apply_proc (cast_number first)) refl;
-    takes = refl;
-    few = omega arith;
-    room = omega arith;
-    small = omega arith;
-  };
+  stands =
+      let z : how_many_cast_procs + ref_place Apply + first ≡ ref_place Apply + (how_many_cast_procs + first) =
+      omega arith in
+      stands_as setting run_by.apply (apply_proc (cast_number first)) (ap (slice_get setting.procs) (number_is ∙ z)
+      ∙ refs (ref_place Apply) (apply_proc (cast_number first)) refl) refl;
   calls = λ s number places objects store here base v cast w c vs ws cs few.
       subst (λ words. Serves merged_meaning setting l procs casts m s
       (Calls merged_meaning setting l procs casts m s places objects base)

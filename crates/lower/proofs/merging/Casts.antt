@@ -40,6 +40,7 @@ use Rattle.lower.proofs.merging.Chains.{Comes, comes_stands, Walking, cast_answe
 use Rattle.lower.proofs.merging.Laws.{held_later}
 use Rattle.lower.proofs.merging.Like.{Like, solid_head, like_of}
 use Rattle.lower.proofs.merging.Stages.{by_law}
+use Rattle.lower.proofs.words.Standing.{stands_as}
 use Rattle.lower.proofs.merging.States.{filled_of}
 
 -- there may be room for more frames
@@ -158,13 +159,9 @@ pub merged_casts_made : (setting : Setting) (l : Layout) (procs : List Proc) (ca
 merged_casts_made setting l procs casts m words first run_by measured placed types held ready number_is words_are =
     record {
       proc = cast_proc first;
-      stands = record {
-        there = ap (λ n. slice_get setting.procs n) number_is ∙ ready 2 (cast_proc first) refl;
-        takes = refl;
-        few = omega arith;
-        room = omega arith;
-        small = omega arith;
-      };
+      stands =
+          stands_as setting run_by.cast (cast_proc first)
+          (ap (λ n. slice_get setting.procs n) number_is ∙ ready 2 (cast_proc first) refl) refl;
       makes = λ s number places objects store here base row c e v w carried.
           let r = row_of l.types (slice_get casts row) c e in
           let z = held.hold row r.0 r.1 in

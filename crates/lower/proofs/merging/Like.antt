@@ -5,6 +5,8 @@ use Rattle.std.proofs.Common.{Bool, true, false, Option, refl, sym, ap, ◌∙�
 use Rattle.std.specs.Prelude.{if◌then◌else◌}
 use Rattle.std.specs.Int.{w64, cast_unsigned, int_wrap}
 use Rattle.grift_base.specs.Types.{TypeHead, IntHead, BoolHead, UnitHead, is_dyn}
+use Rattle.object_layout.specs.declared.kinds.Kind.{Kind as ObjectKind}
+use Rattle.object_layout.specs.Kinds.{kind_number as number_of, is_free}
 use Rattle.object_layout.specs.declared.kinds.Kind.TheVariants.{Closure, Tuple as TupleKind, Boxed, Vector}
 use Rattle.low_ir.specs.Run.{Setting}
 use Rattle.coercion_norm.specs.Coercions.{Coercion, rows_of}
@@ -13,7 +15,8 @@ use Rattle.cast_modes.specs.RunValues.{RunInt, RunBool, RunUnit, RunFun, RunTupl
 use Rattle.cast_modes.specs.RunValues.{shape_of}
 use Rattle.cast_modes.specs.AnswerTypes.{run_head}
 use Rattle.coercion_norm.specs.Held.{Layout, There}
-use Rattle.coercion_norm.specs.Objects.{Object, Fixed, Cell}
+use Rattle.coercion_norm.specs.Objects.{Object, Fixed, Cell, header_of}
+use Rattle.coercion_norm.specs.ObjectsOfRows.{header}
 use Rattle.flat_ir.specs.Bodies.{Proc}
 use Rattle.flat_ir.specs.Machine.{FlatValue, flat_arity}
 use Rattle.rt_cast.specs.Carried.{IsVery, Carries}
@@ -73,57 +76,27 @@ module _ (setting : Setting) (l : Layout) (procs : List Proc) (places : List ℕ
 
   module _ (placed : Placed setting l) {number : ℕ} (h : Heap)
       (filled : Filled merged_meaning setting l number objects h) where
+    -- an object without coercions that stands at a word
+    very : (w : ℕ) (object : Object) (kind : ObjectKind) (count : ℕ) → There l objects w object
+        → header_of object ≡ header (number_of kind) 0 count → is_free kind ≡ true → IsVery l objects w w
+    very w object kind count there head free = record {
+      is = refl;
+      solid = record { object = object; there = there; kind = kind; count = count; head = head; free = free };
+    }
+
     -- what is solid
     pub solid : (v : V) (w : ℕ) → C v [] w → Like v (Solid w) → IsVery l objects w w
     solid (RunFun code captured) w c k =
         let z = function_there l setting.address procs merged_meaning merged_laws places objects setting placed h filled
         code.first c.0 c.1 code.place c.2 c.4 c.5 in
-        record {
-          is = refl;
-          solid = record {
-            object = Fixed (1 + 4294967296 * suc (length z.0)) (setting.address (code.first + code.place) ∷ z.0);
-            there =
-                subst (λ n. There l objects n (Fixed (1 + 4294967296 * suc (length z.0))
-                (setting.address (code.first + code.place) ∷ z.0))) (sym c.3) z.1;
-            kind = Closure;
-            count = suc (length z.0);
-            head = sym (header_is 1 (suc (length z.0)));
-            free = refl;
-          };
-        }
-    solid (RunTuple values) w c k = record {
-      is = refl;
-      solid = record {
-        object = Fixed (tuple_header (length c.0)) c.0;
-        there = c.1;
-        kind = TupleKind;
-        count = length c.0;
-        head = refl;
-        free = refl;
-      };
-    }
-    solid (RunLoc cell true) w c k = record {
-      is = refl;
-      solid = record {
-        object = Cell (vector_header c.0) c.0;
-        there = c.2;
-        kind = Vector;
-        count = c.0;
-        head = refl;
-        free = refl;
-      };
-    }
-    solid (RunLoc cell false) w c k = record {
-      is = refl;
-      solid = record {
-        object = Cell (box_header c.0) c.0;
-        there = c.2;
-        kind = Boxed;
-        count = c.0;
-        head = refl;
-        free = refl;
-      };
-    }
+        very w (Fixed (1 + 4294967296 * suc (length z.0)) (setting.address (code.first + code.place) ∷ z.0)) Closure
+        (suc (length z.0))
+        (subst (λ n. There l objects n (Fixed (1 + 4294967296 * suc (length z.0))
+        (setting.address (code.first + code.place) ∷ z.0))) (sym c.3) z.1) (sym (header_is 1 (suc (length z.0)))) refl
+    solid (RunTuple values) w c k =
+        very w (Fixed (tuple_header (length c.0)) c.0) TupleKind (length c.0) c.1 refl refl
+    solid (RunLoc cell true) w c k = very w (Cell (vector_header c.0) c.0) Vector c.0 c.2 refl refl
+    solid (RunLoc cell false) w c k = very w (Cell (box_header c.0) c.0) Boxed c.0 c.2 refl refl
     solid (RunInt n) w c k = absurd (let z : ⊥ = base_solid k.0 w k.1 in z)
       where
         base_solid : (x a : ℕ) → Solid a ≡ Base IntHead x → ⊥

@@ -50,6 +50,7 @@ use Rattle.lower.proofs.merging.Chains.{Comes, comes_stands, Done, Walking, Late
 use Rattle.lower.proofs.merging.Chains.{ends_here, ends_cast_later, value_part, waits_for_part, stuck_or_not}
 use Rattle.lower.proofs.merging.Like.{Like, solid_head, like_of, prepared, values_of, head_at}
 use Rattle.lower.proofs.merging.Stages.{Stage, Stands, by_law, stays, takes}
+use Rattle.lower.proofs.words.Standing.{stands_as}
 use Rattle.lower.proofs.merging.States.{filled_of}
 use Rattle.lower.proofs.words.Arithmetic.{word_small}
 
@@ -584,13 +585,9 @@ pub merged_parts_given : (setting : Setting) (l : Layout) (procs : List Proc) (c
     → PartsGiven merged_meaning setting l procs casts m run_by
 merged_parts_given setting l procs casts m first run_by measured placed types tallest ready number_is = record {
   proc = project_proc first;
-  stands = record {
-    there = ap (λ n. slice_get setting.procs n) number_is ∙ ready 3 (project_proc first) refl;
-    takes = refl;
-    few = omega arith;
-    room = omega arith;
-    small = omega arith;
-  };
+  stands =
+      stands_as setting run_by.project (project_proc first)
+      (ap (λ n. slice_get setting.procs n) number_is ∙ ready 3 (project_proc first) refl) refl;
   gives = λ s number places objects store here base v cast w c part label.
       gives setting l procs casts m measured first placed types tallest ready s number places objects store here base v
       cast w c part label;

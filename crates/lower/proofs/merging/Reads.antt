@@ -282,21 +282,8 @@ module _ (setting : Setting) (l : Layout) (procs : List Proc) (casts : List Type
         by_store cell (subst (C (RunLoc cell true)) (sym (solid_same a k.0 k.1)) k.2) each z wi ci (slice_get store
         cell)
         refl
-    by_value each (RunLoc cell true) (RunBool b) wi k ci = (0, refl)
-    by_value each (RunLoc cell true) RunUnit wi k ci = (0, refl)
-    by_value each (RunLoc cell true) (RunFun code captured) wi k ci = (0, refl)
-    by_value each (RunLoc cell true) (RunTuple values) wi k ci = (0, refl)
-    by_value each (RunLoc cell true) (RunLoc other b) wi k ci = (0, refl)
-    by_value each (RunLoc cell true) (RunWrap x y) wi k ci = (0, refl)
-    by_value each (RunLoc cell true) (RunInject x y) wi k ci = (0, refl)
-    by_value each (RunLoc cell false) index wi k ci = (0, refl)
-    by_value each (RunInt x) index wi k ci = (0, refl)
-    by_value each (RunBool x) index wi k ci = (0, refl)
-    by_value each RunUnit index wi k ci = (0, refl)
-    by_value each (RunFun code captured) index wi k ci = (0, refl)
-    by_value each (RunTuple values) index wi k ci = (0, refl)
-    by_value each (RunInject x kept) index wi k ci = (0, refl)
     by_value each (RunWrap x y) index wi k ci = absurd (no_proxy a k.0 y k.1)
+    by_value each _ _ wi k ci = (0, refl)
 
   bare_vector : (cell : ℕ) (index : FlatValue Coercion) (wv wi : ℕ) → C (RunLoc cell true) wv → C index wi
       → Does (reads_at 1 wv wi) (turn (RunLoc cell true ∷ index ∷ []) base) 0 number
@@ -351,15 +338,6 @@ module _ (setting : Setting) (l : Layout) (procs : List Proc) (casts : List Type
 
   reads_for : (vs : List (FlatValue Coercion)) (ws : List ℕ) → Cs vs ws
       → Does (reads_at 1 (at_or_zero ws 0) (at_or_zero ws 1)) (turn vs base) 0 number
-  reads_for [] ws c = (0, refl)
-  reads_for (RunInt n ∷ vs) ws c = (0, refl)
-  reads_for (RunBool b ∷ vs) ws c = (0, refl)
-  reads_for (RunUnit ∷ vs) ws c = (0, refl)
-  reads_for (RunFun code captured ∷ vs) ws c = (0, refl)
-  reads_for (RunTuple values ∷ vs) ws c = (0, refl)
-  reads_for (RunInject v kept ∷ vs) ws c = (0, refl)
-  reads_for (RunLoc cell false ∷ vs) ws c = (0, refl)
-  reads_for (RunLoc cell true ∷ []) ws c = (0, refl)
   reads_for (RunLoc cell true ∷ index ∷ x ∷ more) ws c =
       subst (λ y. Does (reads_at 1 (at_or_zero ws 0) (at_or_zero ws 1)) y 0 number) (sym (too_many cell index x more))
       (0, refl)
@@ -367,12 +345,11 @@ module _ (setting : Setting) (l : Layout) (procs : List Proc) (casts : List Type
   reads_for (RunLoc cell true ∷ index ∷ []) (wv ∷ []) c = absurd c.1
   reads_for (RunLoc cell true ∷ index ∷ []) (wv ∷ wi ∷ x ∷ ws) c = absurd c.1.1
   reads_for (RunLoc cell true ∷ index ∷ []) (wv ∷ wi ∷ []) c = bare_vector cell index wv wi c.0 c.1.0
-  reads_for (RunWrap vec wrapper ∷ []) ws c = (0, refl)
-  reads_for (RunWrap vec wrapper ∷ index ∷ x ∷ more) ws c = (0, refl)
   reads_for (RunWrap vec wrapper ∷ index ∷ []) [] c = absurd c
   reads_for (RunWrap vec wrapper ∷ index ∷ []) (wv ∷ []) c = absurd c.1
   reads_for (RunWrap vec wrapper ∷ index ∷ []) (wv ∷ wi ∷ x ∷ ws) c = absurd c.1.1
   reads_for (RunWrap vec wrapper ∷ index ∷ []) (wv ∷ wi ∷ []) c = wrapped_vector vec wrapper index wv wi c.0 c.1.0
+  reads_for _ ws c = (0, refl)
 
   -- ---- what is in boxes
 
@@ -400,14 +377,8 @@ module _ (setting : Setting) (l : Layout) (procs : List Proc) (casts : List Type
     box_value each (RunLoc cell false) k =
         box_in_store cell (subst (C (RunLoc cell false)) (sym (solid_same a k.0 k.1)) k.2) each (slice_get store cell)
         refl
-    box_value each (RunLoc cell true) k = (0, refl)
-    box_value each (RunInt x) k = (0, refl)
-    box_value each (RunBool x) k = (0, refl)
-    box_value each RunUnit k = (0, refl)
-    box_value each (RunFun code captured) k = (0, refl)
-    box_value each (RunTuple values) k = (0, refl)
-    box_value each (RunInject x kept) k = (0, refl)
     box_value each (RunWrap x y) k = absurd (no_proxy a k.0 y k.1)
+    box_value each _ k = (0, refl)
 
   wrapped_box : (box : FlatValue Coercion) (wrapper : Coercion) (wv : ℕ) → C (RunWrap box wrapper) wv
       → Does (reads_at 0 wv 0) (box_turn (RunWrap box wrapper ∷ []) base) 0 number
@@ -483,10 +454,10 @@ module _ (setting : Setting) (l : Layout) (procs : List Proc) (casts : List Type
           0,
           (
             refl,
-            lands setting l procs casts m s 0 0 57 operator_leaves (omega arith) (reads_at 2 wv 0) refl
+            lands setting l procs casts m s s refl refl 0 0 57 operator_leaves (omega arith) (reads_at 2 wv 0) refl
                 (TellsAt setting l s objects k) z.0 z.2 z.3 acting credit (omega arith) (omega arith) n (n + 0)
                 (λ left u. aim (Return (RunInt (pos k))) base store (n + 0) left u)
-                (λ u g. (refl, le_refl operator_leaves, tells (n + 0) k u (few true cell values e a c x wv hv) g)),
+                (λ u room g. (refl, le_refl operator_leaves, tells (n + 0) k u (few true cell values e a c x wv hv) g)),
           ),
         )
 
@@ -494,14 +465,8 @@ module _ (setting : Setting) (l : Layout) (procs : List Proc) (casts : List Type
         → Does (reads_at 2 wv 0) (length_turn (vec ∷ []) base) credit n
     length_value (RunLoc cell true) k =
         length_in_store cell (subst (C (RunLoc cell true)) (sym (solid_same a k.0 k.1)) k.2) (slice_get store cell) refl
-    length_value (RunLoc cell false) k = (0, refl)
-    length_value (RunInt x) k = (0, refl)
-    length_value (RunBool x) k = (0, refl)
-    length_value RunUnit k = (0, refl)
-    length_value (RunFun code captured) k = (0, refl)
-    length_value (RunTuple values) k = (0, refl)
-    length_value (RunInject x kept) k = (0, refl)
     length_value (RunWrap x y) k = absurd (no_proxy a k.0 y k.1)
+    length_value _ k = (0, refl)
 
   length_wrapped : (vec : FlatValue Coercion) (wrapper : Coercion) (wv : ℕ) → C (RunWrap vec wrapper) wv
       → Does (reads_at 2 wv 0) (length_turn (RunWrap vec wrapper ∷ []) base) 0 number
@@ -515,25 +480,16 @@ module _ (setting : Setting) (l : Layout) (procs : List Proc) (casts : List Type
 
   measures_for : (vs : List (FlatValue Coercion)) (ws : List ℕ) → Cs vs ws
       → Does (reads_at 2 (at_or_zero ws 0) 0) (length_turn vs base) 0 number
-  measures_for [] ws c = (0, refl)
-  measures_for (RunInt n ∷ vs) ws c = (0, refl)
-  measures_for (RunBool b ∷ vs) ws c = (0, refl)
-  measures_for (RunUnit ∷ vs) ws c = (0, refl)
-  measures_for (RunFun code captured ∷ vs) ws c = (0, refl)
-  measures_for (RunTuple values ∷ vs) ws c = (0, refl)
-  measures_for (RunInject v kept ∷ vs) ws c = (0, refl)
-  measures_for (RunLoc cell false ∷ vs) ws c = (0, refl)
-  measures_for (RunLoc cell true ∷ x ∷ vs) ws c = (0, refl)
   measures_for (RunLoc cell true ∷ []) [] c = absurd c
   measures_for (RunLoc cell true ∷ []) (wv ∷ x ∷ ws) c = absurd c.1
   measures_for (RunLoc cell true ∷ []) (wv ∷ []) c =
       let very = solid setting l procs places objects placed (heap_of s) here.filled (RunLoc cell true) wv c.0
       (wv, refl, c.0) in
       length_value (Solid wv) wv wv very refl 0 number (RunLoc cell true) (wv, refl, c.0)
-  measures_for (RunWrap vec wrapper ∷ x ∷ vs) ws c = (0, refl)
   measures_for (RunWrap vec wrapper ∷ []) [] c = absurd c
   measures_for (RunWrap vec wrapper ∷ []) (wv ∷ x ∷ ws) c = absurd c.1
   measures_for (RunWrap vec wrapper ∷ []) (wv ∷ []) c = length_wrapped vec wrapper wv c.0
+  measures_for _ ws c = (0, refl)
 
 -- ---- the fields
 

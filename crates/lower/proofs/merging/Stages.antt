@@ -124,6 +124,20 @@ module _ (setting : Setting) (l : Layout) (procs : List Proc) (casts : List Type
               (λ u x. ((let a = x.0 in omega (arith, a, few)), x.1, then u x.2)) z.0 t z.2,
         )
 
+  -- a law is told from a state, with frames for as many coercions as are nested
+  module _ (from : LowState) (waits : from.waiting ≡ s.waiting) (same : from.world ≡ s.world) (frames : ℕ)
+      (few : frames ≤ 4 * l.tallest + 7) (words : ℕ) where
+    stands_from : (u : LowState) → RtWay setting l from frames words u → Stands u
+    stands_from u x = record {
+      objects = x.calm.objects;
+      filled = x.calm.fine.filled;
+      same = x.calm.same ∙ same;
+      room = let a = x.room in let b = ap waiting_room waits in omega (arith, a, b, few);
+    }
+
+    room_from : (u : LowState) → Within from frames words u → HasRoom u
+    room_from u x = let a = x.room in let b = ap waiting_room waits in omega (arith, a, b, few)
+
   -- ---- the walk of a law, which says nothing where a cast comes to nothing
 
   module _ (Nothing : Type 0) (decided : Nothing ⊎ (Nothing → ⊥)) (Comes : LowState → Type 0)
@@ -190,36 +204,54 @@ module _ (setting : Setting) (l : Layout) (procs : List Proc) (casts : List Type
       walks = λ t x n n'. walked words price t x n n';
     }
 
-    -- a law that is told from s, where as many words were asked for as in t
+    -- where a law has come to its end
+    arrives_from : (from : LowState) (frames words : ℕ) → frames ≤ 4 * l.tallest + 7 → from.waiting ≡ s.waiting
+        → from.world ≡ s.world → (t : LowState) → t.words ≡ from.words → (u : LowState)
+        → Within from frames words u × Comes u → Arrives t words u
+    arrives_from from frames words few waits same t asked u x = record {
+      room = room_from from waits same frames few words u x.0;
+      asked = let a = x.0.asked in omega (arith, a, asked);
+      comes = x.1;
+    }
+
+    -- a law, told what holds on its way and at its end
+    by_walk : (words price : ℕ) (t : LowState) → Stands t → (On At : LowState → Type 0)
+        → ((u : LowState) → On u → Passes t words u) → ((u : LowState) → At u → Arrives t words u)
+        → ((Nothing → ⊥)
+        → (k : ℕ) × Reaches (low_machine ending_of setting) On At k t × CostsAtMost ending_of setting k t price)
+        → Begun words price t
+    by_walk words price t stands On At passes arrives law = record {
+      stands = stands;
+      law = λ some.
+          let z = law some in (
+            z.0,
+            reaches_weaken (low_machine ending_of setting) On At (Passes t words) (Arrives t words) passes arrives z.0 t
+                z.1,
+            z.2,
+          );
+    }
+
+    -- a law that is told from a state in which as many words were asked for as in t
+    pub by_law_from : (from : LowState) → from.waiting ≡ s.waiting → from.world ≡ s.world
+        → (frames words price : ℕ) → frames ≤ 4 * l.tallest + 7 → (t : LowState) → Stands t → t.words ≡ from.words
+        → ((Nothing → ⊥)
+        → (k : ℕ) × Reaches (low_machine ending_of setting) (RtWay setting l from frames words)
+        (λ u. Within from frames words u × Comes u) k t × CostsAtMost ending_of setting k t price)
+        → Begun words price t
+    by_law_from from waits same frames words price few t stands asked law =
+        by_walk words price t stands (RtWay setting l from frames words) (λ u. Within from frames words u × Comes u)
+        (λ u x. record {
+          stands = stands_from from waits same frames few words u x;
+          asked = let a = x.asked in omega (arith, a, asked);
+        }) (arrives_from from frames words few waits same t asked) law
+
+    -- from s
     pub by_law : (frames words price : ℕ) → frames ≤ 4 * l.tallest + 7 → (t : LowState) → Stands t → t.words ≡ s.words
         → ((Nothing → ⊥)
         → (k : ℕ) × Reaches (low_machine ending_of setting) (RtWay setting l s frames words)
         (λ u. Within s frames words u × Comes u) k t × CostsAtMost ending_of setting k t price)
         → Begun words price t
-    by_law frames words price few t stands same law = record {
-      stands = stands;
-      law = λ some.
-          let z = law some in (
-            z.0,
-            reaches_weaken (low_machine ending_of setting) (RtWay setting l s frames words)
-                (λ u. Within s frames words u × Comes u) (Passes t words) (Arrives t words)
-                (λ u x. record {
-                  stands = record {
-                    objects = x.calm.objects;
-                    filled = x.calm.fine.filled;
-                    same = x.calm.same;
-                    room = let a = x.room in omega (arith, a, few);
-                  };
-                  asked = let a = x.asked in omega (arith, a, same);
-                })
-                (λ u x. record {
-                  room = let a = x.0.room in omega (arith, a, few);
-                  asked = let a = x.0.asked in omega (arith, a, same);
-                  comes = x.1;
-                }) z.0 t z.1,
-            z.2,
-          );
-    }
+    by_law = by_law_from s refl refl
 
     -- and one of a procedure that may change what was there
     pub by_writing_law : (frames words price : ℕ) → frames ≤ 4 * l.tallest + 7 → (t : LowState) → Stands t
@@ -228,122 +260,42 @@ module _ (setting : Setting) (l : Layout) (procs : List Proc) (casts : List Type
         → (k : ℕ) × Reaches (low_machine ending_of setting) (OnTheWayWriting setting l s frames words)
         (λ u. Within s frames words u × Comes u) k t × CostsAtMost ending_of setting k t price)
         → Begun words price t
-    by_writing_law frames words price few t stands same law = record {
-      stands = stands;
-      law = λ some.
-          let z = law some in (
-            z.0,
-            reaches_weaken (low_machine ending_of setting) (OnTheWayWriting setting l s frames words)
-                (λ u. Within s frames words u × Comes u) (Passes t words) (Arrives t words)
-                (λ u x. record {
-                  stands = record {
-                    objects = x.objects;
-                    filled = x.filled;
-                    same = x.same;
-                    room = let a = x.room in omega (arith, a, few);
-                  };
-                  asked = let a = x.asked in omega (arith, a, same);
-                })
-                (λ u x. record {
-                  room = let a = x.0.room in omega (arith, a, few);
-                  asked = let a = x.0.asked in omega (arith, a, same);
-                  comes = x.1;
-                }) z.0 t z.1,
-            z.2,
-          );
-    }
-
-    -- and one that is told from this state, behind a walk that is done
-    pub by_stretch : (frames words price : ℕ) → frames ≤ 4 * l.tallest + 7 → (t : LowState) → Stands t
-        → t.waiting ≡ s.waiting → t.world ≡ s.world
-        → ((Nothing → ⊥)
-        → (k : ℕ) × Reaches (low_machine ending_of setting) (RtWay setting l t frames words)
-        (λ u. Within t frames words u × Comes u) k t × CostsAtMost ending_of setting k t price)
-        → Begun words price t
-    by_stretch frames words price few t stands waits same law = record {
-      stands = stands;
-      law = λ some.
-          let z = law some in (
-            z.0,
-            reaches_weaken (low_machine ending_of setting) (RtWay setting l t frames words)
-                (λ u. Within t frames words u × Comes u) (Passes t words) (Arrives t words)
-                (λ u x. record {
-                  stands = record {
-                    objects = x.calm.objects;
-                    filled = x.calm.fine.filled;
-                    same = x.calm.same ∙ same;
-                    room = let a = x.room in let b = ap waiting_room waits in omega (arith, a, b, few);
-                  };
-                  asked = x.asked;
-                })
-                (λ u x. record {
-                  room = let a = x.0.room in let b = ap waiting_room waits in omega (arith, a, b, few);
-                  asked = x.0.asked;
-                  comes = x.1;
-                }) z.0 t z.1,
-            z.2,
-          );
-    }
+    by_writing_law frames words price few t stands asked law =
+        by_walk words price t stands (OnTheWayWriting setting l s frames words)
+        (λ u. Within s frames words u × Comes u) (λ u x. record {
+          stands = record {
+            objects = x.objects;
+            filled = x.filled;
+            same = x.same;
+            room = let a = x.room in omega (arith, a, few);
+          };
+          asked = let a = x.asked in omega (arith, a, asked);
+        }) (arrives_from s frames words few refl refl t asked) law
 
   -- a turn in which a procedure comes to where Q holds, at this price, and so much is left
-  pub lands : (frames words price need : ℕ) → frames ≤ 4 * l.tallest + 7 → (t : LowState) → t.words ≡ s.words
-      → (Q : LowState → Type 0) (k : ℕ)
-      → Reaches (low_machine ending_of setting) (RtWay setting l s frames words) (λ u. Within s frames words u × Q u) k
-      t
-      → CostsAtMost ending_of setting k t price → (cost : Cost) (credit : ℕ) → words ≤ cost.asks
-      → price + need ≤ credit + cost.budget → (n n' : ℕ) (P : ℕ → LowState → Type 0)
-      → ((u : LowState) → Q u → P need u)
-      → Walks merged_meaning setting l procs casts m s cost.asks (credit + cost.budget) n n' P t
-  lands frames words price need few t same Q k reach cheap cost credit little enough n n' P then = (
-    k,
-    price,
-    need,
-    enough,
-    cheap,
-    reaches_weaken (low_machine ending_of setting) (RtWay setting l s frames words)
-        (λ u. Within s frames words u × Q u) (Way t cost.asks n n')
-        (Ended t cost.asks (P need))
-        (λ u x. on_way t u cost.asks n n' (record {
-          objects = x.calm.objects;
-          filled = x.calm.fine.filled;
-          same = x.calm.same;
-          room = let a = x.room in omega (arith, a, few);
-        }) (let a = x.asked in omega (arith, a, same, little)))
-        (λ u x. (
-          (let a = x.0.asked in omega (arith, a, same, little)),
-          (let a = x.0.room in omega (arith, a, few)),
-          then u x.1,
-        )) k t reach,
-  )
-
-  -- the same where the law is told from the state in which the turn begins
-  pub lands_from : (frames words price need : ℕ) → frames ≤ 4 * l.tallest + 7 → (t : LowState) → t.waiting ≡ s.waiting
-      → t.world ≡ s.world → (Q : LowState → Type 0) (k : ℕ)
-      → Reaches (low_machine ending_of setting) (RtWay setting l t frames words) (λ u. Within t frames words u × Q u) k
-      t
+  pub lands : (from : LowState) → from.waiting ≡ s.waiting → from.world ≡ s.world → (frames words price need : ℕ)
+      → frames ≤ 4 * l.tallest + 7 → (t : LowState) → t.words ≡ from.words → (Q : LowState → Type 0) (k : ℕ)
+      → Reaches (low_machine ending_of setting) (RtWay setting l from frames words)
+      (λ u. Within from frames words u × Q u) k t
       → CostsAtMost ending_of setting k t price → (cost : Cost) (credit : ℕ) → words ≤ cost.asks
       → price + need ≤ credit + cost.budget → (n n' : ℕ) (P : ℕ → LowState → Type 0)
       → ((u : LowState) → HasRoom u → Q u → P need u)
       → Walks merged_meaning setting l procs casts m s cost.asks (credit + cost.budget) n n' P t
-  lands_from frames words price need few t waits same Q k reach cheap cost credit little enough n n' P then = (
+  lands from waits same frames words price need few t asked Q k reach cheap cost credit little enough n n' P then = (
     k,
     price,
     need,
     enough,
     cheap,
-    reaches_weaken (low_machine ending_of setting) (RtWay setting l t frames words)
-        (λ u. Within t frames words u × Q u) (Way t cost.asks n n')
-        (Ended t cost.asks (P need))
-        (λ u x. on_way t u cost.asks n n' (record {
-          objects = x.calm.objects;
-          filled = x.calm.fine.filled;
-          same = x.calm.same ∙ same;
-          room = let a = x.room in let b = ap waiting_room waits in omega (arith, a, b, few);
-        }) (let a = x.asked in omega (arith, a, little)))
-        (λ u x. (
-          (let a = x.0.asked in omega (arith, a, little)),
-          (let a = x.0.room in let b = ap waiting_room waits in omega (arith, a, b, few)),
-          then u (let a = x.0.room in let b = ap waiting_room waits in omega (arith, a, b, few)) x.1,
+    reaches_weaken (low_machine ending_of setting) (RtWay setting l from frames words)
+        (λ u. Within from frames words u × Q u) (Way t cost.asks n n') (Ended t cost.asks (P need))
+        (λ u x. on_way t u cost.asks n n' (stands_from from waits same frames few words u x)
+        (let a = x.asked in omega (arith, a, asked, little)))
+        (λ u x.
+        let room : HasRoom u = room_from from waits same frames few words u x.0 in (
+          (let a = x.0.asked in omega (arith, a, asked, little)),
+          omega (arith, room),
+          then u room x.1,
         )) k t reach,
   )
 
@@ -357,7 +309,7 @@ module _ (setting : Setting) (l : Layout) (procs : List Proc) (casts : List Type
   trapped_at aim trap frames price few t same k reach cheap cost credit enough n = (
     refl,
     refl,
-    lands frames 0 price 0 few t same (TrapsAt ending_of setting l s trap) k reach cheap cost credit (omega arith)
-        (omega (arith, enough)) n n (λ left u. StopsNow merged_meaning setting l procs casts m s n
-        (EndsWith (TrapVerdict trap)) u) (λ u x. trap_stops setting l procs casts m s n trap u x),
+    lands s refl refl frames 0 price 0 few t same (TrapsAt ending_of setting l s trap) k reach cheap cost credit
+        (omega arith) (omega (arith, enough)) n n (λ left u. StopsNow merged_meaning setting l procs casts m s n
+        (EndsWith (TrapVerdict trap)) u) (λ u room x. trap_stops setting l procs casts m s n trap u x),
   )

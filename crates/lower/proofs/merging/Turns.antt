@@ -29,7 +29,8 @@ use Rattle.lower.specs.Numbering.{function_offset}
 use Rattle.lower.specs.MergedMeaning.{merged_meaning, WrapsKind}
 use Rattle.lower.specs.Keeping.{FitsMeasures}
 use Rattle.lower.specs.SchemeLaws.{StopsNow, After, Goes, Aim}
-use Rattle.lower.proofs.merging.Opened.{opened, no_int, no_bool, no_unit, no_dyn}
+use Rattle.coercion_norm.proofs.Public.{heads_exact}
+use Rattle.lower.proofs.merging.Opened.{opened, no_parts}
 use Rattle.lower.proofs.heap.Objects.{none_some, same_some, closure_header}
 use Rattle.std.proofs.Common.{pos}
 use Rattle.coercion_norm.specs.Coercions.{Coercions, NoCoercions, CoercionThen, same_kind}
@@ -124,37 +125,13 @@ rows_wrap BoolRow other same parts = absurd (no_false parts)
 rows_wrap UnitRow other same parts = absurd (no_false parts)
 rows_wrap DynRow other same parts = absurd (no_false parts)
 rows_wrap (FunRow ps a) (FunRow qs b) same parts = ap (λ x. cond (not x) Casts Wraps) same
-rows_wrap (FunRow ps a) IntRow same parts = absurd (no_true same)
-rows_wrap (FunRow ps a) BoolRow same parts = absurd (no_true same)
-rows_wrap (FunRow ps a) UnitRow same parts = absurd (no_true same)
-rows_wrap (FunRow ps a) DynRow same parts = absurd (no_true same)
-rows_wrap (FunRow ps a) (TupleRow qs) same parts = absurd (no_true same)
-rows_wrap (FunRow ps a) (RefRow b) same parts = absurd (no_true same)
-rows_wrap (FunRow ps a) (VectRow b) same parts = absurd (no_true same)
+rows_wrap (FunRow ps a) _ same parts = absurd (no_true same)
 rows_wrap (TupleRow ps) (TupleRow qs) same parts = ap (λ x. cond (not x) Casts Wraps) same
-rows_wrap (TupleRow ps) IntRow same parts = absurd (no_true same)
-rows_wrap (TupleRow ps) BoolRow same parts = absurd (no_true same)
-rows_wrap (TupleRow ps) UnitRow same parts = absurd (no_true same)
-rows_wrap (TupleRow ps) DynRow same parts = absurd (no_true same)
-rows_wrap (TupleRow ps) (FunRow qs b) same parts = absurd (no_true same)
-rows_wrap (TupleRow ps) (RefRow b) same parts = absurd (no_true same)
-rows_wrap (TupleRow ps) (VectRow b) same parts = absurd (no_true same)
+rows_wrap (TupleRow ps) _ same parts = absurd (no_true same)
 rows_wrap (RefRow a) (RefRow b) same parts = refl
-rows_wrap (RefRow a) IntRow same parts = absurd (no_true same)
-rows_wrap (RefRow a) BoolRow same parts = absurd (no_true same)
-rows_wrap (RefRow a) UnitRow same parts = absurd (no_true same)
-rows_wrap (RefRow a) DynRow same parts = absurd (no_true same)
-rows_wrap (RefRow a) (FunRow qs b) same parts = absurd (no_true same)
-rows_wrap (RefRow a) (TupleRow qs) same parts = absurd (no_true same)
-rows_wrap (RefRow a) (VectRow b) same parts = absurd (no_true same)
+rows_wrap (RefRow a) _ same parts = absurd (no_true same)
 rows_wrap (VectRow a) (VectRow b) same parts = refl
-rows_wrap (VectRow a) IntRow same parts = absurd (no_true same)
-rows_wrap (VectRow a) BoolRow same parts = absurd (no_true same)
-rows_wrap (VectRow a) UnitRow same parts = absurd (no_true same)
-rows_wrap (VectRow a) DynRow same parts = absurd (no_true same)
-rows_wrap (VectRow a) (FunRow qs b) same parts = absurd (no_true same)
-rows_wrap (VectRow a) (TupleRow qs) same parts = absurd (no_true same)
-rows_wrap (VectRow a) (RefRow b) same parts = absurd (no_true same)
+rows_wrap (VectRow a) _ same parts = absurd (no_true same)
 
 no_dyn_head : (row : TypeRow) → same_head row DynRow ≡ true → has_none (kind_of row) ≡ false → ⊥
 no_dyn_head IntRow same parts = no_true same
@@ -187,32 +164,7 @@ opening_wraps types kept wanted same parts = by (slice_get types kept) (slice_ge
 
 -- a type with the head of one that isn't Dyn isn't either
 dyn_same : (row other : TypeRow) → same_head row other ≡ true → is_dyn other ≡ false → is_dyn row ≡ false
-dyn_same row other e f = by (is_dyn row) refl
-  where
-    dyn_is : (row : TypeRow) → is_dyn row ≡ true → row ≡ DynRow
-    dyn_is IntRow q = absurd (no_true q)
-    dyn_is BoolRow q = absurd (no_true q)
-    dyn_is UnitRow q = absurd (no_true q)
-    dyn_is DynRow q = refl
-    dyn_is (FunRow ps a) q = absurd (no_true q)
-    dyn_is (TupleRow ps) q = absurd (no_true q)
-    dyn_is (RefRow a) q = absurd (no_true q)
-    dyn_is (VectRow a) q = absurd (no_true q)
-
-    other_dyn : (other : TypeRow) → same_head DynRow other ≡ true → is_dyn other ≡ true
-    other_dyn IntRow q = absurd (no_true q)
-    other_dyn BoolRow q = absurd (no_true q)
-    other_dyn UnitRow q = absurd (no_true q)
-    other_dyn DynRow q = refl
-    other_dyn (FunRow ps a) q = absurd (no_true q)
-    other_dyn (TupleRow ps) q = absurd (no_true q)
-    other_dyn (RefRow a) q = absurd (no_true q)
-    other_dyn (VectRow a) q = absurd (no_true q)
-
-    by : (b : Bool) → is_dyn row ≡ b → b ≡ false
-    by false q = refl
-    by true q =
-        absurd (no_false (sym (other_dyn other (subst (λ r. same_head r other ≡ true) (dyn_is row q) e)) ∙ f))
+dyn_same row other e f = ap (λ h. equal_heads h DynHead) (heads_exact (head_of row) (head_of other) e) ∙ f
 
 -- between types of one head without parts there is nothing to do
 nothing_between : (types : TypeRows) (kept wanted label : ℕ)
@@ -302,48 +254,28 @@ module _ (setting : Setting) (l : Layout) (procs : List Proc) (casts : List Type
       inl (RunWrap u z, Proxied a z, (a, refl, k, f refl), h, refl, ap (decided go (Wrapping z)) e)
   solid_turn go false z u m frames a e k h f = inr (refl, refl)
 
+  -- a value that keeps a wrapper
+  still_wrapped : (go : Coercion → Merged ℕ → Outcome ℕ) (z : Coercion) (u : FlatValue Coercion) (old : Coercion)
+      (m : Merged ℕ) (frames : List (FlatFrame Coercion)) (a : ℕ) → m ≡ Proxied a old → L u (Solid a) → HeadIs u
+      → WrapsKind l objects z a
+      → OneTurn frames (made_at (Rewrapping z) (RunWrap u old) frames) (decision_wraps (Rewrapping z))
+      (decided go (Rewrapping z) m)
+  still_wrapped go z u old m frames a e k h f =
+      inl (RunWrap u z, Proxied a z, (a, refl, k, f), h, refl, ap (decided go (Rewrapping z)) e)
+
   rewrapped_turn : (go : Coercion → Merged ℕ → Outcome ℕ) (z : Coercion) (u : FlatValue Coercion) (old : Coercion)
       (m : Merged ℕ) (frames : List (FlatFrame Coercion)) (a : ℕ) → m ≡ Proxied a old → L u (Solid a) → HeadIs u
       → WrapsKind l objects z a
       → OneTurn frames (made_at (rewrapped z) (RunWrap u old) frames) (decision_wraps (rewrapped z))
       (decided go (rewrapped z) m)
   rewrapped_turn go Id u old m frames a e k h f = inl (u, Solid a, k, h, refl, ap (decided go Unwrapping) e)
-  rewrapped_turn go (Fail label) u old m frames a e k h f =
-      inl (
-        RunWrap u (Fail label),
-        Proxied a (Fail label),
-        (a, refl, k, f),
-        h,
-        refl,
-        ap (decided go (Rewrapping (Fail label))) e,
-      )
+  rewrapped_turn go (Fail label) u old m frames a e k h f = still_wrapped go (Fail label) u old m frames a e k h f
   rewrapped_turn go (Middle kind cs) u old m frames a e k h f =
-      inl (
-        RunWrap u (Middle kind cs),
-        Proxied a (Middle kind cs),
-        (a, refl, k, f),
-        h,
-        refl,
-        ap (decided go (Rewrapping (Middle kind cs))) e,
-      )
+      still_wrapped go (Middle kind cs) u old m frames a e k h f
   rewrapped_turn go (Inject g kept) u old m frames a e k h f =
-      inl (
-        RunWrap u (Inject g kept),
-        Proxied a (Inject g kept),
-        (a, refl, k, f),
-        h,
-        refl,
-        ap (decided go (Rewrapping (Inject g kept))) e,
-      )
+      still_wrapped go (Inject g kept) u old m frames a e k h f
   rewrapped_turn go (Project wanted label i) u old m frames a e k h f =
-      inl (
-        RunWrap u (Project wanted label i),
-        Proxied a (Project wanted label i),
-        (a, refl, k, f),
-        h,
-        refl,
-        ap (decided go (Rewrapping (Project wanted label i))) e,
-      )
+      still_wrapped go (Project wanted label i) u old m frames a e k h f
 
   wrapped_turn : (go : Coercion → Merged ℕ → Outcome ℕ) (b : Bool) (z : Coercion) (u : FlatValue Coercion)
       (old : Coercion) (m : Merged ℕ) (frames : List (FlatFrame Coercion)) (a : ℕ) → m ≡ Proxied a old → L u (Solid a)
@@ -444,15 +376,16 @@ module _ (setting : Setting) (l : Layout) (procs : List Proc) (casts : List Type
       → OneTurn frames (turn (Middle kind cs) u frames) (wraps_in (Middle kind cs) u)
       (decided go (apply_to (Middle kind cs) (shape_of (flat_arity procs) u)) m)
   middle_by go kind cs some frames (RunInt n) m k h =
-      no_cast go (equal_heads IntHead (middle_head kind (width cs))) (Wrapping (Middle kind cs)) (no_int kind cs some)
+      no_cast go (equal_heads IntHead (middle_head kind (width cs))) (Wrapping (Middle kind cs))
+      (no_parts IntHead refl kind cs some)
       (RunInt n) m frames
   middle_by go kind cs some frames (RunBool b) m k h =
       no_cast go (equal_heads BoolHead (middle_head kind (width cs))) (Wrapping (Middle kind cs))
-      (no_bool kind cs some)
+      (no_parts BoolHead refl kind cs some)
       (RunBool b) m frames
   middle_by go kind cs some frames RunUnit m k h =
       no_cast go (equal_heads UnitHead (middle_head kind (width cs))) (Wrapping (Middle kind cs))
-      (no_unit kind cs some)
+      (no_parts UnitHead refl kind cs some)
       RunUnit m frames
   middle_by go kind cs some frames (RunFun code captured) m k h =
       solid_turn go (shape_has_head (shape_of (flat_arity procs) (RunFun code captured))
@@ -472,7 +405,8 @@ module _ (setting : Setting) (l : Layout) (procs : List Proc) (casts : List Type
       (composition_of l.types old (Middle kind cs)) u old m frames k.0 k.1 k.2 h
       (λ q. of_composed old kind cs k.0 q k.3)
   middle_by go kind cs some frames (RunInject u kept) m k h =
-      no_cast go (equal_heads DynHead (middle_head kind (width cs))) NoCast (no_dyn kind cs some) (RunInject u kept) m
+      no_cast go (equal_heads DynHead (middle_head kind (width cs))) NoCast (no_parts DynHead refl kind cs some)
+      (RunInject u kept) m
       frames
 
   -- and with that on what is like it

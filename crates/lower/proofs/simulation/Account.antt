@@ -2,9 +2,9 @@
 -- it has asked for and in the room of its frames, and where it has come to what that run has come to, in the prices of
 -- its steps.
 use Rattle.std.proofs.Common.{◌≡◌, ◌≢◌, ◌⊎◌, inl, inr, ◌<◌, ◌∙◌, zero, suc, ℕ, ◌+◌, ◌*◌, ◌≤◌, List, [], ◌∷◌, Option}
-use Rattle.std.proofs.Common.{Some, None, Bool, true, false, refl, sym, ap, subst, arith, slice_get, eqb-true, le_refl}
+use Rattle.std.proofs.Common.{Some, None, Bool, true, false, refl, sym, ap, subst, arith, slice_get, le_refl}
 use Rattle.std.proofs.Common.{length}
-use Rattle.std.specs.Prelude.{◌==◌, ◌&&◌, ◌-◌, nat_le, nat_lt, max, if◌then◌else◌}
+use Rattle.std.specs.Prelude.{◌-◌, nat_lt, max, if◌then◌else◌}
 use Rattle.grift_base.specs.declared.places.Pos.{Pos}
 use Rattle.grift_base.specs.declared.verdicts.Verdict.{Verdict}
 use Rattle.run_laws.specs.Runs.{Ending, NeverWrong}
@@ -55,9 +55,8 @@ use Rattle.lower.proofs.simulation.Way.{asks_of, budget_of, cost_of, due_most, d
 use Rattle.lower.proofs.simulation.Way.{over_price, prices_of, size_of, turn_aim, turn_of, zero_once_ended}
 use Rattle.lower.proofs.simulation.Way.{stays_in, turn_room}
 use Rattle.lower.proofs.simulation.SizedStates.{related_room, shown_room}
-use Rattle.lower.proofs.simulation.Starts.{entered_flat, entered_low, first_live}
+use Rattle.lower.proofs.simulation.Starts.{entered_flat, entered_low, first_step, first_live}
 use Rattle.lower.proofs.words.Credits.{costs_first, costs_rest}
-use Rattle.lower.proofs.words.Operands.{and_true}
 use Rattle.lower.proofs.words.Stops.{AreSized, Sized, Grows, Stepped, stepped as step_grows, stops_cheaply, frame_most}
 use Rattle.lower.proofs.words.Stops.{numbered_words}
 
@@ -961,14 +960,10 @@ module _ (program : Program) (typed : TypesStand program.l) (most : ℕ)
         → Reaches N (λ m. Alike K M N s0 m × L (N.shown m) (M.shown s0)) (SomeRel s0) 1 (unspent t0)
     begun None there e = true_false e
     begun (Some p) there e =
-        let x = and_true (p.params == 0) ((p.captured == 0) && (p.group == 0)) e in
-        let y = and_true (p.captured == 0) (p.group == 0) x.1 in
-        let none : p.params ≡ 0 = eqb-true p.params 0 x.0 in
-        let low = program.stand entry p there in
         let t1 = entered_low program memory statics fits input p in
-        let fine = enters (suc p.params) (levels p.params p.body + 10) (omega (arith, none)) (omega arith) in
         by_step_at_cost (low_machine ending_of program.setting) (low_price program.setting.procs)
-        (λ m. Alike K M N s0 m × L (N.shown m) (M.shown s0)) (SomeRel s0) 0 (unspent t0) (Go t1) (rw (low, fine) refl) (
+        (λ m. Alike K M N s0 m × L (N.shown m) (M.shown s0)) (SomeRel s0) 0 (unspent t0) (Go t1)
+        (first_step program memory statics fits input entry p there e) (
           seen_alike s0 (unspent t0) 0 refl (none_taken program.setting.region) (zero_least 0)
               (zero_least (0 + where_some s0.state.ended 0 (asks_of program s0.state)))
               (first_frames (depth_of s0) (frame_room most) (25 * (1 + program.meaning.serving program.l))
@@ -987,7 +982,7 @@ module _ (program : Program) (typed : TypesStand program.l) (most : ℕ)
           words = zero_least 0;
           sized = first_sized;
         })
-        (inl (first_live program memory statics fits input entry p there none y.0 y.1))
+        (inl (first_live program memory statics fits input entry p there e))
         (first_paid (low_price program.setting.procs t0)
         (due_of (low_proc program.run p).code []) (due_of (show_by program.answer) []) entering_most
         (due_most (low_proc program.run p).code []) (due_most (show_by program.answer) []))
@@ -1009,9 +1004,6 @@ module _ (program : Program) (typed : TypesStand program.l) (most : ℕ)
         two_frames : (own depth each serving : ℕ) → own ≤ each → 25 ≤ each
             → own + (25 + 0) ≤ (depth + 4) * each + serving
         two_frames own depth each serving le few = grind arith
-
-        enters : (n k : ℕ) → n ≡ 1 → 10 ≤ k → ((1 == n) && (nat_le n 8 && nat_le n k)) ≡ true
-        enters n k a b = grind (arith, a, b)
 
         none_taken : (region : ℕ) → region + 8 * 0 ≤ region
         none_taken region = omega arith

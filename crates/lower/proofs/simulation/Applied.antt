@@ -38,7 +38,8 @@ use Rattle.low_ir.specs.Prices.{low_price, codes_price}
 use Rattle.std.proofs.Common.{◌*◌}
 use Rattle.flat_ir.specs.FlatTally.{act_cost}
 use Rattle.lower.proofs.words.EmitPrices.{call_price_all, call_body_begins, then_price}
-use Rattle.lower.proofs.words.Operands.{ChangesFrom, and_true, both_words, found_all_same, same_besides, value_carried}
+use Rattle.lower.proofs.words.Operands.{Changes, ChangesFrom, and_true, both_words, found_all_same, same_besides}
+use Rattle.lower.proofs.words.Operands.{value_carried, values_carried}
 use Rattle.lower.proofs.words.Services.{taken}
 use Rattle.lower.proofs.simulation.Way.{Program, N, mode_of, prices_of, next_state, cost_of, dues, due_is, waiting_dues}
 use Rattle.lower.proofs.simulation.Way.{room_over, turn_room, stays_in}
@@ -155,7 +156,7 @@ module _ (program : Program) (typed : TypesStand program.l)
       (Calls program.meaning program.setting program.l program.procs program.casts program.measured
       (at f.world h waits n rr now code)
       places objects f.frames) entering (cost_of program f) program.number 0
-      (entered (at f.world h waits n rr now code) program.calling.proc
+      (entered (at f.world h waits n rr now code) program.serves.calling.proc
       (w ∷ at_or_zero ws 0 ∷ at_or_zero ws 1 ∷ at_or_zero ws 2 ∷ at_or_zero ws 3 ∷ at_or_zero ws 4 ∷ at_or_zero ws 5
       ∷ length ws ∷ []))
   law waits n rr now code w ws carried all =
@@ -163,10 +164,10 @@ module _ (program : Program) (typed : TypesStand program.l)
       program.measured (at f.world h waits n rr now code)
       (Calls program.meaning program.setting program.l program.procs program.casts program.measured
       (at f.world h waits n rr now code) places objects f.frames) entering cost program.number 0
-      (entered (at f.world h waits n rr now code) program.calling.proc
+      (entered (at f.world h waits n rr now code) program.serves.calling.proc
       (w ∷ at_or_zero ws 0 ∷ at_or_zero ws 1 ∷ at_or_zero ws 2 ∷ at_or_zero ws 3 ∷ at_or_zero ws 4 ∷ at_or_zero ws 5
       ∷ length ws ∷ []))) cost_is
-      (program.calling.calls (at f.world h waits n rr now code) program.number places objects f.store
+      (program.serves.calling.calls (at f.world h waits n rr now code) program.number places objects f.store
       (record { filled = filled; cells = cells }) f.frames u cast w carried (values locals group os) ws all
       (omega (arith, long, few)))
 
@@ -232,7 +233,7 @@ module _ (program : Program) (typed : TypesStand program.l)
       → 174 + waiting_dues waits + 556 ≤ call_leaves + have → (t : LowState) (floor : ℕ)
       → frame_room n + waiting_room waits + 25 * (1 + program.meaning.serving program.l) ≤ turn_room program t
       → low_price program.setting.procs t + floor ≤ left_of program.setting t → t.words ≡ h.words
-      → (N program).step t ≡ Go (entered (at f.world h waits n rr now code) program.calling.proc (handed w ws))
+      → (N program).step t ≡ Go (entered (at f.world h waits n rr now code) program.serves.calling.proc (handed w ws))
       → OnTurn program typed f 0 t.words (turn_room program t) t → M floor t
   enters_apply waits n rr now code w ws carried all callers enough t floor in_room paid same step calm =
       let c = at f.world h waits n rr now code in
@@ -245,12 +246,12 @@ module _ (program : Program) (typed : TypesStand program.l)
             f.frames)
             (λ focus frames store m left v fits q. enters program typed f places objects c refl callers
             (turn_room program t) have 556 in_room enough focus frames store m left v fits q) entering 0 z.0 t
-            (entered c program.calling.proc (handed w ws)) step (sym same) calm (record {
+            (entered c program.serves.calling.proc (handed w ws)) step (sym same) calm (record {
               objects = objects;
               filled = inl filled;
               same = refl;
-              room = entered_room c program.calling.proc (handed w ws)
-                  (25 * (1 + program.meaning.serving program.l)) program.calling.stands.small;
+              room = entered_room c program.serves.calling.proc (handed w ws)
+                  (25 * (1 + program.meaning.serving program.l)) program.serves.calling.stands.small;
               asked = omega arith;
             }) z.1,
       )
@@ -275,6 +276,14 @@ module _ (program : Program) (typed : TypesStand program.l)
       let z = due_is (emit program.run s (Call fo os) next) rests (call_body_begins program.run s fo os next) in
       omega (arith, z)
 
+  -- where the test changes its own word, the operands are found as before
+  still_found : (now last : Locals) → Changes (test_word s) now last
+      → words_of last (a ∷ found_all s 1 os) ≡ words_of now (a ∷ found_all s 1 os)
+  still_found now last more =
+      found_all_same (serving_scene program typed f places entering 0 0 0 0 h.words (room_over program size waiting))
+      f.world h (as_it_was program f h.words) objects filled waiting size (stays_in program size waiting) rests s count
+      group depth locals (fo ∷ os) 0 all_bound (omega (arith, few)) now last more
+
   by_next : (next' : Then)
       → RestHere program places objects waiting s count size group depth f.frames next' rests words → (w : ℕ)
       (ws : List ℕ) (now : Locals) → CarriedHere program places objects (RunWrap u cast) w
@@ -290,11 +299,7 @@ module _ (program : Program) (typed : TypesStand program.l)
       (λ z. omega (arith, z)) (and_more_parts (word_of now a) (words_of now (found_all s 1 os)) w ws are).0
       (wrapped_there program places objects u cast [] w carried)
       (λ last more.
-      let still = found_all_same (serving_scene program typed f places entering 0 0 0 0 h.words
-      (room_over program size waiting)) f.world h
-      (as_it_was program f h.words) objects filled waiting
-      size (stays_in program size waiting) rests s count group depth locals (fo ∷ os) 0 all_bound (omega (arith, few))
-      now last more ∙ are in
+      let still = still_found now last more ∙ are in
       falls_through program.setting (OnTurn program typed f 0 h.words (room_over program size waiting))
       (calling_goal program typed f (floor_for ToCaller) have 556 entering 0 h.words
       (room_over program size waiting))
@@ -306,9 +311,9 @@ module _ (program : Program) (typed : TypesStand program.l)
       (TailCall program.run.apply (apply_words a (found_all s 1 os))))
       (floor_for ToCaller) enough_room (omega arith) refl
       (let e = apply_handed last w ws all still in
-      let there = program.calling.stands.there in
-      let fine = taken program.setting program.run.apply 8 program.calling.proc (handed w ws) program.calling.stands
-      refl
+      let there = program.serves.calling.stands.there in
+      let fine = taken program.setting program.run.apply 8 program.serves.calling.proc (handed w ws)
+      program.serves.calling.stands refl
       in rw (e, there, fine) refl)
       (on rests last (TailCall program.run.apply (apply_words a (found_all s 1 os)))))))
   by_next (Into d k) r w ws now carried all are same =
@@ -319,11 +324,7 @@ module _ (program : Program) (typed : TypesStand program.l)
       (λ z. omega (arith, z)) (and_more_parts (word_of now a) (words_of now (found_all s 1 os)) w ws are).0
       (wrapped_there program places objects u cast [] w carried)
       (λ last more.
-      let still = found_all_same (serving_scene program typed f places entering 0 0 0 0 h.words
-      (room_over program size waiting)) f.world h
-      (as_it_was program f h.words) objects filled waiting
-      size (stays_in program size waiting) rests s count group depth locals (fo ∷ os) 0 all_bound (omega (arith, few))
-      now last more ∙ are in
+      let still = still_found now last more ∙ are in
       let named : SameNamed s depth words last = λ j n. more j (not_test j n) ∙ same j n in
       calls_now program typed f (floor_for (Into d k)) have 556 entering 0
       (at f.world h waiting size (k ∷ rests) last
@@ -344,9 +345,9 @@ module _ (program : Program) (typed : TypesStand program.l)
       (CallOf d program.run.apply (apply_words a (found_all s 1 os)) Done)) (floor_for (Into d k)) enough_above
       (omega arith) refl
       (let e = apply_handed last w ws all still in
-      let there = program.calling.stands.there in
-      let fine = taken program.setting program.run.apply 8 program.calling.proc (handed w ws) program.calling.stands
-      refl
+      let there = program.serves.calling.stands.there in
+      let fine = taken program.setting program.run.apply 8 program.serves.calling.proc (handed w ws)
+      program.serves.calling.stands refl
       in rw (e, there, fine) refl)
       (on (k ∷ rests) last (CallOf d program.run.apply (apply_words a (found_all s 1 os)) Done))))
 
@@ -376,20 +377,11 @@ module _ (program : Program) (typed : TypesStand program.l)
   carried_all : (ws : List ℕ)
       × AreCarried program.l program.setting.address program.procs program.meaning places objects
       (in_row (values locals group os)) ws
-  carried_all = by_operands os (and_true (operands_bound s.captured count depth os) (nat_le (length os) 6) parts.1).0
-    where
-      by_operands : (os : List Operand) → operands_bound s.captured count depth os ≡ true → (ws : List ℕ)
-          × AreCarried program.l program.setting.address program.procs program.meaning places objects
-          (in_row (values locals group os)) ws
-      by_operands [] b = ([], tt)
-      by_operands (o ∷ os) b =
-          let x = and_true (operand_bound s.captured count depth o) (operands_bound s.captured count depth os) b in
-          let c = value_carried (serving_scene program typed f places entering 0 0 0 0 h.words
-          (room_over program size waiting)) f.world h
-          (as_it_was program f h.words) objects filled waiting
-          size (stays_in program size waiting) rests s count group depth locals o x.0 words fits.knows in
-          let cs = by_operands os x.1 in
-          (c.0 ∷ cs.0, (c.1, cs.1))
+  carried_all =
+      values_carried (serving_scene program typed f places entering 0 0 0 0 h.words (room_over program size waiting))
+      f.world h (as_it_was program f h.words) objects filled waiting size (stays_in program size waiting) rests s count
+      group depth locals os (and_true (operands_bound s.captured count depth os) (nat_le (length os) 6) parts.1).0 words
+      fits.knows
 
   pub call_served : Served program typed f entering 0 0
       (at f.world h waiting size rests words (emit program.run s (Call fo os) next))
@@ -417,7 +409,7 @@ module _ (program : Program) (typed : TypesStand program.l)
           (Calls program.meaning program.setting program.l program.procs program.casts program.measured t places objects
           f.frames)
           z.0) f refl entering (cost_of program f) 0 program.number 0
-          (entered t program.calling.proc (handed c.0 cs.0)) z.1
+          (entered t program.serves.calling.proc (handed c.0 cs.0)) z.1
 
       fetched : (all : List ℕ) (now : Locals)
           → AreCarried program.l program.setting.address program.procs program.meaning places objects

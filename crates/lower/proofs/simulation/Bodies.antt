@@ -6,7 +6,8 @@ use Rattle.low_ir.specs.Procedures.{Code, Done}
 use Rattle.low_ir.specs.Steps.{Locals}
 use Rattle.low_ir.specs.Run.{Active, Waiting as LowWaiting, LowState, word_of}
 use Rattle.cast_modes.specs.RunValues.{RunTuple, RunWrap, RunInt, RunBool, RunUnit, RunFun, RunLoc, RunInject}
-use Rattle.cast_modes.specs.ValueSteps.{Own, On, OwnFrame}
+use Rattle.cast_modes.specs.ValueSteps.{Own, On, NoNext, OwnFrame}
+use Rattle.run_laws.specs.Machines.{Go}
 use Rattle.flat_ir.specs.declared.code.Operand.{Operand}
 use Rattle.flat_ir.specs.Bodies.{Body, Choose, LetBody, LetGroup}
 use Rattle.flat_ir.specs.Closed.{operand_bound, operands_bound, body_bound, begins_group}
@@ -41,15 +42,15 @@ use Rattle.machine_words.specs.declared.conditions.Cond.TheVariants.{Ne}
 use Rattle.std.specs.Prelude.{max, ◌-◌, ◌*◌}
 use Rattle.lower.proofs.words.Steps.{at, here, Calm, Goal, left_of}
 use Rattle.lower.proofs.words.Scene.{Scene}
-use Rattle.lower.proofs.words.Operands.{fetch_reads, value_carried, and_true, Changes}
+use Rattle.lower.proofs.words.Operands.{fetch_reads, and_true, Changes}
 use Rattle.lower.proofs.words.Groups.{makes_group}
 use Rattle.lower.proofs.simulation.Groups.{begins_so, all_members}
 use Rattle.lower.proofs.simulation.Way.{room_over, turn_room, stays_in}
-use Rattle.lower.proofs.simulation.Way.{mode_of}
+use Rattle.lower.proofs.simulation.Way.{mode_of, N}
 use Rattle.lower.proofs.simulation.Way.{Program, Follows, Live, Kept, next_state, Way, scene_for, turn_goal, turn_aim}
 use Rattle.lower.proofs.simulation.Way.{kept_by, kept_with, kept_here, at_start, asks_of, budget_of, dues, due_of}
 use Rattle.lower.proofs.simulation.Way.{due_most, arrives, floor_of}
-use Rattle.lower.proofs.simulation.Gives.{CarriedHere, RestHere, CallersHere, levels_above}
+use Rattle.lower.proofs.simulation.Gives.{CarriedHere, RestHere, CallersHere, levels_above, living}
 use Rattle.lower.proofs.simulation.Operations.{goes_wrong, still_asked}
 
 module _ (program : Program) where
@@ -68,17 +69,10 @@ module _ (program : Program) where
       → Live program (flat_state_at program.procs program.told (Own (Inside body locals group)) frames f.store f.world)
       0 (at f.world h waiting size rests words (emit program.run s body next))
   running places objects h f filled cells body locals group frames waiting size rests words s count depth next fits
-      rest = record {
-        is = refl;
-        related = record {
-          places = places;
-          objects = objects;
-          filled = filled;
-          cells = cells;
-          world = refl;
-          goes = record { s = s; count = count; depth = depth; next = next; is = refl; fits = fits; rest = rest };
-        };
-      }
+      rest =
+      living program places objects h (flat_state_at program.procs program.told (Own (Inside body locals group)) frames
+      f.store f.world) refl filled cells waiting size rests words (emit program.run s body next) 0
+      (record { s = s; count = count; depth = depth; next = next; is = refl; fits = fits; rest = rest })
 
   module _ (typed : TypesStand program.l) (f : FlatState program.meaning.Cast) (places : List ℕ) (objects : List Object)
       (h : Heap) (filled : Filled program.meaning program.setting program.l program.number objects h)
@@ -139,29 +133,25 @@ module _ (program : Program) where
         same_new new changed j named =
             changed j (free_other s depth (operand_word s 0) j (Between (omega arith) (omega arith)) named)
 
-        fits_one : (new : Locals) → Changes (operand_word s 0) words new → FitsHere s count group depth locals new a
-        fits_one new changed = record {
-          bound = parts.1;
+        fits_branch : (body : Body) → body_bound program.procs s.captured count depth body ≡ true
+            → levels depth body + 10 ≤ size → (new : Locals) → Changes (operand_word s 0) words new
+            → FitsHere s count group depth locals new body
+        fits_branch body bound room new changed = record {
+          bound = bound;
           params = fits.params;
           few = fits.few;
-          room = let z = fits.room in omega (arith, z);
+          room = room;
           knows =
               knows_same program.setting program.l program.run program.procs program.answer program.meaning program.laws
               places objects s
               count group depth locals words new (same_new new changed) fits.knows;
         }
 
+        fits_one : (new : Locals) → Changes (operand_word s 0) words new → FitsHere s count group depth locals new a
+        fits_one = fits_branch a parts.1 (let z = fits.room in omega (arith, z))
+
         fits_other : (new : Locals) → Changes (operand_word s 0) words new → FitsHere s count group depth locals new b
-        fits_other new changed = record {
-          bound = parts.2;
-          params = fits.params;
-          few = fits.few;
-          room = let z = fits.room in omega (arith, z);
-          knows =
-              knows_same program.setting program.l program.run program.procs program.answer program.meaning program.laws
-              places objects s
-              count group depth locals words new (same_new new changed) fits.knows;
-        }
+        fits_other = fits_branch b parts.2 (let z = fits.room in omega (arith, z))
 
         rest_new : (next : Then) → RestHere program places objects waiting s count size group depth f.frames next
             rests words
@@ -222,59 +212,56 @@ module _ (program : Program) where
             new (emit program.run s (Choose o a b) next) c left 0 (choose_body_begins program.run s o a b next)
             (omega (arith, dear, source, same, long, le, enough)) (omega arith)
 
+        -- the test goes to the branch whose body this is, with the code behind it
+        goes_in : (next next' : Then) (body : Body) (one other k : Code) (new : Locals)
+            → testing next ≡ If Ne (found s (operand_word s 0) o) (Number 0) one other k
+            → (N program).step (at f.world h waiting size rests new (testing next))
+            ≡ Go (at f.world h waiting size (k ∷ rests) new (emit program.run s body next'))
+            → FitsHere s count group depth locals new body
+            → RestHere program places objects waiting s count size group depth f.frames next' (k ∷ rests) new
+            → Tests next body new
+        goes_in next next' body one other k new is step fits rest =
+            let t = at f.world h waiting size rests new (testing next) in
+            let u = at f.world h waiting size (k ∷ rests) new (emit program.run s body next') in
+            by_go program.setting (Way program f (next_state program f (after body)) h.words
+            (room_over program size waiting)) (Aimed next body) (least_of next) (behind_test one other k)
+            (left_of program.setting t + 0) t u step
+            (subst (λ c. step_price program.setting.procs size c + behind_test one other k
+            ≤ code_price program.setting.procs size c + codes_price program.setting.procs size rests + 0) (sym is)
+            (test_paid (step_price program.setting.procs size (If Ne (found s (operand_word s 0) o) (Number 0) one other
+            k)) (code_price program.setting.procs size one) (code_price program.setting.procs size other)
+            (code_price program.setting.procs size k) (codes_price program.setting.procs size rests)))
+            (calm_of body rests new (testing next))
+            (arrives program f (next_state program f (after body)) h.words (room_over program size waiting) 0
+            (left_of program.setting (starting next)) (starting next) (behind_test one other k) u (
+              0,
+              inl (running places objects h f filled cells body locals group f.frames waiting size (k ∷ rests) new s
+                  count depth next' fits rest),
+              tested_kept next body one other k (k ∷ rests) new (emit program.run s body next')
+                  (behind_test one other k)
+                  is (le_refl (suc (length rests))) (omega arith),
+            ))
+
+        -- what stands behind a branch is left for its end
+        branch_rest : (d : ℕ) (k : Code) → RestHere program places objects waiting s count size group depth f.frames
+            (Into d k) rests words
+            → (new : Locals) → Changes (operand_word s 0) words new
+            → RestHere program places objects waiting s count size group depth f.frames (Into d Done) (k ∷ rests) new
+        branch_rest d k rest new changed =
+            rest_branch program.setting program.l program.run program.procs program.answer program.meaning program.laws
+            places objects (CallersHere program places objects waiting) s count size group depth f.frames d k rests new
+            (rest_new (Into d k) rest new changed)
+
         takes_one : (next : Then) → RestHere program places objects waiting s count size group depth f.frames next
             rests words
             → (new : Locals) → Changes (operand_word s 0) words new
             → word_of new (found s (operand_word s 0) o) ≡ Some 1 → Tests next a new
         takes_one ToCaller rest new changed is =
-            let one = emit program.run s a ToCaller in
-            let k = emit program.run s b ToCaller in
-            let u = at f.world h waiting size (k ∷ rests) new one in
-            by_go program.setting (Way program f (next_state program f (after a)) h.words
-            (room_over program size waiting)) (Aimed ToCaller a)
-            (least_of ToCaller)
-            (behind_test one Done k) (left_of program.setting (at f.world h waiting size rests new (testing ToCaller))
-            + 0)
-            (at f.world h waiting size rests new (testing ToCaller)) u (rw is refl)
-            (test_paid (step_price program.setting.procs size (testing ToCaller))
-            (code_price program.setting.procs size one) 10 (code_price program.setting.procs size k)
-            (codes_price program.setting.procs size rests)) (calm_of a rests new (testing ToCaller))
-            (arrives program f (next_state program f (after a)) h.words (room_over program size waiting) 0
-            (left_of program.setting (starting ToCaller)) (starting ToCaller)
-            (behind_test one Done k) u (
-              0,
-              inl (running places objects h f filled cells a locals group f.frames waiting size (k ∷ rests) new s count
-                  depth ToCaller (fits_one new changed) (rest_new ToCaller rest new changed)),
-              tested_kept ToCaller a one Done k (k ∷ rests) new one (behind_test one Done k) refl
-                  (le_refl (suc (length rests))) (omega arith),
-            ))
+            goes_in ToCaller ToCaller a (emit program.run s a ToCaller) Done (emit program.run s b ToCaller) new refl
+            (rw is refl) (fits_one new changed) (rest_new ToCaller rest new changed)
         takes_one (Into d k) rest new changed is =
-            let one = emit program.run s a (Into d Done) in
-            let other = emit program.run s b (Into d Done) in
-            let u = at f.world h waiting size (k ∷ rests) new one in
-            by_go program.setting (Way program f (next_state program f (after a)) h.words
-            (room_over program size waiting)) (Aimed (Into d k) a)
-            (least_of (Into d k))
-            (behind_test one other k) (left_of program.setting (at f.world h waiting size rests new
-            (testing (Into d k))) + 0)
-            (at f.world h waiting size rests new (testing (Into d k))) u (rw is refl)
-            (test_paid (step_price program.setting.procs size (testing (Into d k)))
-            (code_price program.setting.procs size one) (code_price program.setting.procs size other)
-            (code_price program.setting.procs size k) (codes_price program.setting.procs size rests)) (calm_of a rests
-            new (testing (Into d k)))
-            (arrives program f (next_state program f (after a)) h.words (room_over program size waiting) 0
-            (left_of program.setting (starting (Into d k))) (starting (Into d k))
-            (behind_test one other k) u (
-              0,
-              inl (running places objects h f filled cells a locals group f.frames waiting size (k ∷ rests) new s count
-                  depth (Into d Done) (fits_one new changed)
-                  (rest_branch program.setting program.l program.run program.procs program.answer program.meaning
-                  program.laws places objects
-                  (CallersHere program places objects waiting) s count size group depth f.frames d k rests new
-                  (rest_new (Into d k) rest new changed))),
-              tested_kept (Into d k) a one other k (k ∷ rests) new one (behind_test one other k) refl
-                  (le_refl (suc (length rests))) (omega arith),
-            ))
+            goes_in (Into d k) (Into d Done) a (emit program.run s a (Into d Done)) (emit program.run s b (Into d Done))
+            k new refl (rw is refl) (fits_one new changed) (branch_rest d k rest new changed)
 
         takes_other : (next : Then) → RestHere program places objects waiting s count size group depth f.frames next
             rests words
@@ -321,32 +308,8 @@ module _ (program : Program) where
             fell : (x k r : ℕ) → max x 10 + k + r ≤ 10 + (max x 10 - 10 + k + r)
             fell x k r = grind arith
         takes_other (Into d k) rest new changed is =
-            let one = emit program.run s a (Into d Done) in
-            let other = emit program.run s b (Into d Done) in
-            let u = at f.world h waiting size (k ∷ rests) new other in
-            by_go program.setting (Way program f (next_state program f (after b)) h.words
-            (room_over program size waiting)) (Aimed (Into d k) b)
-            (least_of (Into d k))
-            (behind_test one other k) (left_of program.setting (at f.world h waiting size rests new
-            (testing (Into d k))) + 0)
-            (at f.world h waiting size rests new (testing (Into d k))) u (rw is refl)
-            (test_paid (step_price program.setting.procs size (testing (Into d k)))
-            (code_price program.setting.procs size one) (code_price program.setting.procs size other)
-            (code_price program.setting.procs size k) (codes_price program.setting.procs size rests)) (calm_of b rests
-            new (testing (Into d k)))
-            (arrives program f (next_state program f (after b)) h.words (room_over program size waiting) 0
-            (left_of program.setting (starting (Into d k))) (starting (Into d k))
-            (behind_test one other k) u (
-              0,
-              inl (running places objects h f filled cells b locals group f.frames waiting size (k ∷ rests) new s count
-                  depth (Into d Done) (fits_other new changed)
-                  (rest_branch program.setting program.l program.run program.procs program.answer program.meaning
-                  program.laws places objects
-                  (CallersHere program places objects waiting) s count size group depth f.frames d k rests new
-                  (rest_new (Into d k) rest new changed))),
-              tested_kept (Into d k) b one other k (k ∷ rests) new other (behind_test one other k) refl
-                  (le_refl (suc (length rests))) (omega arith),
-            ))
+            goes_in (Into d k) (Into d Done) b (emit program.run s a (Into d Done)) (emit program.run s b (Into d Done))
+            k new refl (rw is refl) (fits_other new changed) (branch_rest d k rest new changed)
 
         abbrev branching : Code
         branching = emit program.run s (Choose o a b) next
@@ -354,47 +317,44 @@ module _ (program : Program) where
         pub branch_turns : Follows program f (flat_choose program.procs (mode_of program) f.store f.world
             (value locals group o) a b locals group f.frames)
             (at f.world h waiting size rests words (emit program.run s (Choose o a b) next))
-        branch_turns =
-            by_value (value locals group o) refl
-            (value_carried (scene_of a) f.world h (as_before a) objects filled waiting size
-            (stays_in program size waiting) rests s count group depth locals o parts.0 words fits.knows)
+        branch_turns = by_value (value locals group o) refl
           where
             lt : operand_word s 0 < size
             lt = let x = fits.params in let y = fits.room in let z = levels_above depth a in omega (arith, x, y, z)
 
+            -- the test is fetched, and takes this branch
+            by_test : (body : Body) (bit : ℕ)
+                → ((w : ℕ) → CarriedHere program places objects (value locals group o) w → w ≡ bit)
+                → ((new : Locals) → Changes (operand_word s 0) words new
+                → word_of new (found s (operand_word s 0) o) ≡ Some bit → Tests next body new)
+                → Follows program f (after body) (at f.world h waiting size rests words branching)
+            by_test body bit carries takes =
+                fetch_reads (scene_of body) f.world h (as_before body) objects filled waiting size
+                (stays_in program size waiting) rests s count group depth locals o (operand_word s 0) parts.0 lt words
+                fits.knows
+                (choose program.run (found s (operand_word s 0) o) (emit program.run s a) (emit program.run s b) next)
+                (λ w new carried found_is changed. takes new changed (found_is ∙ ap Some (carries w carried)))
+
+            wrong : Follows program f NoNext (at f.world h waiting size rests words branching)
+            wrong = goes_wrong program f places objects h filled waiting size rests words branching
+
             by_value : (v : FlatValue program.meaning.Cast) → value locals group o ≡ v
-                → (w : ℕ) × CarriedHere program places objects v w
                 → Follows program f
                 (flat_choose program.procs (mode_of program) f.store f.world v a b locals group f.frames)
                 (at f.world h waiting size rests words (emit program.run s (Choose o a b) next))
-            by_value (RunBool true) is c =
-                fetch_reads (scene_of a) f.world h (as_before a) objects filled waiting size
-                (stays_in program size waiting) rests s count group depth locals o (operand_word s 0) parts.0 lt words
-                fits.knows
-                (choose program.run (found s (operand_word s 0) o) (emit program.run s a) (emit program.run s b) next)
-                (λ w new carried found_is changed.
-                let one : w ≡ 1 = subst (λ v. CarriedHere program places objects v w) is carried in
-                takes_one next rest new changed (found_is ∙ ap Some one))
-            by_value (RunBool false) is c =
-                fetch_reads (scene_of b) f.world h (as_before b) objects filled waiting size
-                (stays_in program size waiting) rests s count group depth locals o (operand_word s 0) parts.0 lt words
-                fits.knows
-                (choose program.run (found s (operand_word s 0) o) (emit program.run s a) (emit program.run s b) next)
-                (λ w new carried found_is changed.
-                let none : w ≡ 0 = subst (λ v. CarriedHere program places objects v w) is carried in
-                takes_other next rest new changed (found_is ∙ ap Some none))
-            by_value (RunInt n) is c = goes_wrong program f places objects h filled waiting size rests words branching
-            by_value RunUnit is c = goes_wrong program f places objects h filled waiting size rests words branching
-            by_value (RunFun function captured) is c =
-                goes_wrong program f places objects h filled waiting size rests words branching
-            by_value (RunTuple values) is c =
-                goes_wrong program f places objects h filled waiting size rests words branching
-            by_value (RunLoc cell is_vector) is c =
-                goes_wrong program f places objects h filled waiting size rests words branching
-            by_value (RunWrap u cast) is c =
-                goes_wrong program f places objects h filled waiting size rests words branching
-            by_value (RunInject u kept) is c =
-                goes_wrong program f places objects h filled waiting size rests words branching
+            by_value (RunBool true) is =
+                by_test a 1 (λ w carried. subst (λ v. CarriedHere program places objects v w) is carried)
+                (takes_one next rest)
+            by_value (RunBool false) is =
+                by_test b 0 (λ w carried. subst (λ v. CarriedHere program places objects v w) is carried)
+                (takes_other next rest)
+            by_value (RunInt n) is = wrong
+            by_value RunUnit is = wrong
+            by_value (RunFun function captured) is = wrong
+            by_value (RunTuple values) is = wrong
+            by_value (RunLoc cell is_vector) is = wrong
+            by_value (RunWrap u cast) is = wrong
+            by_value (RunInject u kept) is = wrong
 
       -- ---- lets
 

@@ -1,5 +1,5 @@
 -- The turns of calls.
-use Rattle.std.proofs.Common.{◌≡◌, ◌≢◌, inl, inr, ℕ, zero, suc, ◌+◌, ◌*◌, ◌<◌, ◌≤◌, List, [], ◌∷◌}
+use Rattle.std.proofs.Common.{◌≡◌, ◌≢◌, ◌⊎◌, inl, inr, ℕ, zero, suc, ◌+◌, ◌*◌, ◌<◌, ◌≤◌, List, [], ◌∷◌}
 use Rattle.std.proofs.Common.{Bool, Some, None, true, false, length, refl, sym, ap, ◌∙◌, subst, arith, Option}
 use Rattle.std.proofs.Common.{ne_eqb, eq-eqb}
 use Rattle.std.specs.Prelude.{slice_get, ◌==◌, ◌&&◌, nat_le, if◌then◌else◌}
@@ -48,7 +48,7 @@ use Rattle.lower.proofs.simulation.Way.{Program, next_state, Way, Allowed, scene
 use Rattle.lower.proofs.simulation.Way.{dues, due_most, due_is, waiting_dues}
 use Rattle.lower.proofs.words.EmitPrices.{call_price_all, call_body_begins, then_price}
 use Rattle.low_ir.specs.Prices.{code_price, codes_price}
-use Rattle.lower.proofs.simulation.Gives.{CarriedHere, RestHere, CallersHere, levels_above}
+use Rattle.lower.proofs.simulation.Gives.{CarriedHere, RestHere, CallersHere, levels_above, living}
 
 -- ---- the words that a procedure takes
 
@@ -117,6 +117,71 @@ module _ (program : Program) where
       let same : i ≡ k = program.addresses.once i k q.0 p q.1 e (ap program.setting.address (sym m) ∙ z) in
       omega (arith, same, lt))
 
+  module _ (places : List ℕ) (objects : List Object) where
+    -- the procedure that was entered with these words runs, where they know its names
+    pub runs_first : (k : ℕ) (p : Proc) (group : Group program.meaning.Cast) (locals : FlatLocals program.meaning.Cast)
+        (own : ℕ) (ws : List ℕ) (waiting : List LowWaiting) (frames : List (FlatFrame program.meaning.Cast))
+        → slice_get program.procs k ≡ Some p
+        → ((p.captured ≡ 0) × (p.group ≡ 0)) ⊎ OwnGroup program.setting program.l program.run program.procs
+        program.answer program.meaning places objects (shape_of p) p.group group own
+        → ((i : ℕ) → i < p.params → (w : ℕ) × (bind 0 (own ∷ ws) no_locals (local_word (shape_of p) i) ≡ Some w)
+        × CarriedHere program places objects (locals i) w)
+        → CallersHere program places objects waiting frames
+        → Runs program.setting program.l program.run program.procs program.answer program.meaning places objects p.body
+        locals group frames (record {
+          count = levels p.params p.body + 10;
+          locals = bind 0 (own ∷ ws) no_locals;
+          code = (low_proc program.run p).code;
+          rests = [];
+        }) waiting
+    runs_first k p group locals own ws waiting frames there own_group local callers =
+        let c = proc_is_closed program.procs program.closed k p there in
+        record {
+          s = shape_of p;
+          count = p.group;
+          depth = p.params;
+          next = ToCaller;
+          is = refl;
+          fits = record {
+            bound = c.bound;
+            params = le_refl p.params;
+            few = c.params;
+            room = le_refl (levels p.params p.body + 10);
+            knows = record {
+              own = own;
+              own_is = bind_at (own ∷ ws) 0 0 0 own no_locals refl refl;
+              own_group = own_group;
+              local = local;
+            };
+          };
+          rest = callers;
+        }
+
+    -- a function that is carried by a word is the one at its place of the group there
+    module _ (first place : ℕ) (captured : FlatValues program.meaning.Cast) (p : Proc)
+        (there : slice_get program.procs (first + place) ≡ Some p) (w : ℕ)
+        (c : CarriedHere program places objects (RunFun (record { first = first; place = place }) captured) w) where
+      member : IsMember program.procs first c.1 (length c.2) place
+      member = c.5.members place c.4
+
+      proc_same : member.proc ≡ p
+      proc_same = same_some member.proc p (sym member.there ∙ there)
+
+      pub own_of : OwnGroup program.setting program.l program.run program.procs program.answer program.meaning places
+          objects (shape_of p) p.group (record { first = first; captured = captured }) w
+      own_of = record {
+        leader = c.0;
+        words = c.2;
+        is = c.3 ∙ ap (λ n. c.0 + function_offset (length c.2) n)
+            (sym (ap (λ q. q.place) (sym proc_same) ∙ member.place_is));
+        long = ap (λ q. q.captured) (sym proc_same) ∙ member.captured_is;
+        inside = (let x = ap (λ q. q.place) (sym proc_same) ∙ member.place_is in
+            let y = ap (λ q. q.group) (sym proc_same) ∙ member.group_is in let z = c.4 in omega (arith, x, y, z));
+        stands = subst (λ n. IsGroup program.l program.setting.address program.procs program.meaning places objects
+            first c.0 n c.2) (sym (ap (λ q. q.group) (sym proc_same) ∙ member.group_is)) c.5;
+        carried = c.6;
+      }
+
   module _ (f : FlatState program.meaning.Cast) (places : List ℕ) (objects : List Object)
       (h : Heap) (filled : Filled program.meaning program.setting program.l program.number objects h)
       (cells : CellsHeld program.l program.setting.address program.procs program.meaning places objects h.memory places
@@ -140,27 +205,7 @@ module _ (program : Program) where
             rests = [];
           }) waiting
       entered p group vs own ws waiting frames k there g carried long callers =
-          let c = proc_is_closed program.procs program.closed k p there in
-          record {
-            s = shape_of p;
-            count = p.group;
-            depth = p.params;
-            next = ToCaller;
-            is = refl;
-            fits = record {
-              bound = c.bound;
-              params = le_refl p.params;
-              few = c.params;
-              room = le_refl (levels p.params p.body + 10);
-              knows = record {
-                own = own;
-                own_is = bind_at (own ∷ ws) 0 0 0 own no_locals refl refl;
-                own_group = inr g;
-                local = λ i lt. at_level i lt;
-              };
-            };
-            rest = callers;
-          }
+          runs_first places objects k p group (locals_of vs) own ws waiting frames there (inr g) at_level callers
         where
           many : length ws ≡ length vs
           many =
@@ -256,12 +301,6 @@ module _ (program : Program) where
             abbrev low : LowProc
             low = low_proc program.run p
 
-            member : IsMember program.procs first c.1 (length c.2) place
-            member = c.5.members place c.4
-
-            proc_same : member.proc ≡ p
-            proc_same = same_some member.proc p (sym member.there ∙ there)
-
             stands : (rest : List ℕ) × There program.l objects (c.0 + function_offset (length c.2) place)
                 (Fixed (1 + 4294967296 * suc (length rest)) (program.setting.address (first + place) ∷ rest))
             stands =
@@ -273,23 +312,6 @@ module _ (program : Program) where
                 (Fixed (1 + 4294967296 * suc (length stands.0)) (program.setting.address (first + place) ∷ stands.0))
             at_word = subst (λ n. There program.l objects n (Fixed (1 + 4294967296 * suc (length stands.0))
                 (program.setting.address (first + place) ∷ stands.0))) (sym c.3) stands.1
-
-            own : OwnGroup program.setting program.l program.run program.procs program.answer program.meaning places
-                objects
-                (shape_of p) p.group (record { first = first; captured = captured }) w
-            own = record {
-              leader = c.0;
-              words = c.2;
-              is = c.3 ∙ ap (λ n. c.0 + function_offset (length c.2) n)
-                  (sym (ap (λ q. q.place) (sym proc_same) ∙ member.place_is));
-              long = ap (λ q. q.captured) (sym proc_same) ∙ member.captured_is;
-              inside = (let x = ap (λ q. q.place) (sym proc_same) ∙ member.place_is in
-                  let y = ap (λ q. q.group) (sym proc_same) ∙ member.group_is in let z = c.4 in omega (arith, x, y, z));
-              stands = subst (λ n. IsGroup program.l program.setting.address program.procs program.meaning places
-                  objects first
-                  c.0 n c.2) (sym (ap (λ q. q.group) (sym proc_same) ∙ member.group_is)) c.5;
-              carried = c.6;
-            }
 
             takes : ((length (w ∷ ws) == low.params) && (nat_le low.params 8 && nat_le low.params low.words)) ≡ true
             takes =
@@ -317,19 +339,11 @@ module _ (program : Program) where
                 → Q.holds left (at f.world h waiting' low.words [] (bind 0 (w ∷ ws) no_locals) low.code)
             inside waiting' left callers le = (
               0,
-              inl (record {
-                is = refl;
-                related = record {
-                  places = places;
-                  objects = objects;
-                  filled = filled;
-                  cells = cells;
-                  world = refl;
-                  goes =
-                      entered p (record { first = first; captured = captured }) (values locals group os) w ws waiting'
-                      f.frames (first + place) there own carried long callers;
-                };
-              }),
+              inl (living program places objects h f' refl filled cells waiting' low.words []
+                  (bind 0 (w ∷ ws) no_locals) low.code 0
+                  (entered p (record { first = first; captured = captured }) (values locals group os) w ws waiting'
+                  f.frames (first + place) there
+                  (own_of places objects first place captured p there w c) carried long callers)),
               record {
                 asked = omega arith;
                 paid = let z = due_most low.code [] in omega (arith, le, z);

@@ -47,6 +47,7 @@ use Rattle.lower.proofs.words.Steps.{if_true, if_false}
 use Rattle.lower.proofs.words.Operands.{fetch_reads, value_carried, Changes, ChangesFrom, both_words, found_same}
 use Rattle.lower.proofs.words.Operands.{same_besides}
 use Rattle.lower.proofs.words.Operations.{Touches, beside, not_computed}
+use Rattle.lower.proofs.simulation.Way.{scene_with}
 use Rattle.lower.proofs.simulation.Way.{Program, mode_of, prices_of, next_state, asks_of, budget_of, cost_of, dues}
 use Rattle.lower.proofs.simulation.Way.{due_is, room_over, stays_in}
 use Rattle.lower.proofs.simulation.Way.{waiting_dues}
@@ -64,25 +65,16 @@ use Rattle.lower.proofs.words.Scene.{Carries}
 -- frames have this room
 abbrev pub serving_scene : (program : Program) → TypesStand program.l → (f : FlatState program.meaning.Cast) → List ℕ
     → FlatAfter program.meaning.Cast → ℕ → ℕ → ℕ → ℕ → ℕ → ℕ → Scene
-serving_scene program typed f places x w floor have before base room = record {
-  meaning = program.meaning;
-  laws = program.laws;
-  number = program.number;
-  setting = program.setting;
-  l = program.l;
-  placed = program.placed;
-  begins = program.begins;
-  run = program.run;
-  procs = program.procs;
-  answer = program.answer;
-  places = places;
-  P = OnTurn program typed f w base room;
-  Q = starting_goal program typed f floor have before x w base room;
-  allowed = λ world words. (world.output ≡ f.world.output) × (words ≤ base + asks_of program f);
-  room = room;
-  calm = λ world h objects filled ok count waiting fits rests locals code.
-      record { same = ok.0; filling = inl (objects, filled); asked = ok.1; room = fits };
-}
+serving_scene program typed f places x w floor have before base room =
+    scene_with program places (OnTurn program typed f w base room)
+    (starting_goal program typed f floor have before x w base room)
+    (λ world words. (world.output ≡ f.world.output) × (words ≤ base + asks_of program f)) room
+    (λ world h objects filled ok count waiting fits rests locals code. record {
+      same = ok.0;
+      filling = inl (objects, filled);
+      asked = ok.1;
+      room = fits;
+    })
 
 -- nothing has happened yet
 pub as_it_was : (program : Program) (f : FlatState program.meaning.Cast) (base : ℕ)
@@ -189,23 +181,23 @@ module _ (program : Program) (typed : TypesStand program.l)
           (at f.world h waiting size rr new (call_cast program.run d a number behind))
       calls =
           let wc = cast_word (slice_get program.run.cast_at number) in
-          let second : Some (wc % 2 ^ 64) ≡ Some wc = ap Some (mod-eq_of_lt (program.words number c e)) in
+          let second : Some (wc % 2 ^ 64) ≡ Some wc = ap Some (mod-eq_of_lt (program.serves.words number c e)) in
           let handed = both_words (word_of new a) (words_of new (Number wc ∷ [])) y (wc ∷ []) is
           (both_words (Some (wc % 2 ^ 64)) (Some []) wc [] second refl) in
           let here_now = caller program typed f places objects h filled cells waiting size rests words s count depth
           group next rest less falls behind rr fall new touched cast_leaves have 174 (omega (arith, one_at_most))
           (enough falls one_at_most) in
-          let z = program.casting.makes here_now program.number places objects f.store
+          let z = program.serves.casting.makes here_now program.number places objects f.store
           (record { filled = filled; cells = cells }) f.frames number c e v y carried in
           called program typed f places objects h filled cells waiting size rests words s count depth group next rest
           less falls behind rr fall new touched cast_leaves have 174 (omega (arith, one_at_most))
           (enough falls one_at_most) (casts_to (Some c)) w program.run.cast (a ∷ Number wc ∷ [])
-          (y ∷ wc ∷ []) program.casting.proc 2 handed program.casting.stands refl z.0
+          (y ∷ wc ∷ []) program.serves.casting.proc 2 handed program.serves.casting.stands refl z.0
           (subst (λ cost. After program.meaning program.setting program.l program.procs program.casts program.measured
           here_now (Goes program.meaning program.setting program.l program.procs program.casts program.measured
           here_now (Returns program.meaning program.setting program.l program.procs program.casts program.measured
           here_now cast_leaves places objects f.frames) z.0) (casts_to (Some c)) cost 0 program.number w
-          (entered here_now program.casting.proc (y ∷ wc ∷ []))) (sym cost_is) z.1)
+          (entered here_now program.serves.casting.proc (y ∷ wc ∷ []))) (sym cost_is) z.1)
 
     -- the word of the operand is there
     module _ (y : ℕ) (new : Locals) (carried : Carries scene objects v y) (is : word_of new a ≡ Some y)
@@ -247,7 +239,7 @@ module _ (program : Program) (typed : TypesStand program.l)
             → step_price program.setting.procs size (Compute op d b b' Done) ≤ 29
             → Comes program.setting P Q (at f.world h waiting size (k ∷ rests) last (Compute op d b b' Done))
         one op b b' m n word first second made law cheap =
-            let z = program.made_in_place (at f.world h waiting size (k ∷ rests) last (Compute op d b b' Done))
+            let z = program.serves.made_in_place (at f.world h waiting size (k ∷ rests) last (Compute op d b b' Done))
             program.number places objects f.store (record { filled = filled; cells = cells }) f.frames number c e v y
             carried word law in
             let t = at f.world h waiting size (k ∷ rests) last (Compute op d b b' Done) in
@@ -382,7 +374,7 @@ module _ (program : Program) (typed : TypesStand program.l)
         (stays_in program size waiting) rests s count
         group depth locals o
         fits.bound words fits.knows in
-        let z = program.casting.makes t program.number places objects f.store
+        let z = program.serves.casting.makes t program.number places objects f.store
         (record { filled = filled; cells = cells }) f.frames number c e v y.0 y.1 in
         silent_after program t (Goes program.meaning program.setting program.l program.procs program.casts
         program.measured t
@@ -390,7 +382,7 @@ module _ (program : Program) (typed : TypesStand program.l)
         places objects f.frames)
         z.0) f refl (casts_to (Some c)) (cast_cost program.procs (mode_of program) (prices_of program) (Some c) v) 0
         program.number w
-        (entered t program.casting.proc (y.0 ∷ cast_word (slice_get program.run.cast_at number) ∷ [])) z.1
+        (entered t program.serves.casting.proc (y.0 ∷ cast_word (slice_get program.run.cast_at number) ∷ [])) z.1
 
     pub cast_served : Served program typed f (casts_to (Some c))
         (decision_wraps (decision_at program.procs (mode_of program) (Some c) (value locals group o))) 0

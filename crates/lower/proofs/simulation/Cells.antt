@@ -1,6 +1,6 @@
 -- Operators on boxes and vectors that a procedure of the scheme does.
 use Rattle.std.proofs.Common.{◌≡◌, ◌⊎◌, inl, inr, ℕ, ◌+◌, ◌<◌, ◌≤◌, List, [], ◌∷◌, length, Some, true}
-use Rattle.std.proofs.Common.{refl, ◌∙◌, subst, arith}
+use Rattle.std.proofs.Common.{refl, sym, ◌∙◌, subst, arith}
 use Rattle.std.specs.Prelude.{nat_le}
 use Rattle.grift_base.specs.declared.operators.PrimOp.{PrimOp}
 use Rattle.grift_base.specs.declared.operators.PrimOp.TheVariants.{MakeVector, VectorRef, VectorSet, VectorLength}
@@ -16,7 +16,7 @@ use Rattle.coercion_norm.specs.Objects.{Object}
 use Rattle.flat_ir.specs.declared.code.Operand.{Operand}
 use Rattle.flat_ir.specs.declared.code.Operation.TheVariants.{Prim}
 use Rattle.flat_ir.specs.Bodies.{Give}
-use Rattle.flat_ir.specs.Closed.{operand_bound, operands_bound}
+use Rattle.flat_ir.specs.Closed.{operands_bound}
 use Rattle.flat_ir.specs.Machine.{FlatValue, FlatAfter, FlatState, Group, values, flat_operate}
 use Rattle.flat_ir.specs.Machine.{Locals as FlatLocals}
 use Rattle.lower.specs.declared.numbering.Shape.{Shape}
@@ -34,7 +34,7 @@ use Rattle.std.proofs.Common.{◌*◌}
 use Rattle.flat_ir.specs.FlatTally.{operator_cost}
 use Rattle.lower.proofs.words.EmitPrices.{prim_price, perform_begins}
 use Rattle.lower.specs.Emit.{perform}
-use Rattle.lower.proofs.words.Operands.{value_carried, ChangesFrom, Changes, and_true, both_words, found_all_same}
+use Rattle.lower.proofs.words.Operands.{values_carried, ChangesFrom, Changes, and_true, both_words, found_all_same}
 use Rattle.lower.proofs.words.Operations.{Touches, not_computed}
 use Rattle.lower.proofs.simulation.Way.{Program, mode_of, prices_of, next_state, cost_of, waiting_dues, due_same}
 use Rattle.lower.proofs.simulation.Way.{room_over, stays_in}
@@ -46,6 +46,13 @@ use Rattle.lower.proofs.simulation.Casts.{serving_scene, as_it_was}
 use Rattle.lower.proofs.simulation.Serving.{after_fetching, not_of_kind, wrapped_there}
 use Rattle.lower.specs.Meanings.{IsWrapper}
 use Rattle.lower.proofs.simulation.Applied.{source_word}
+
+-- the operators on vectors
+pub data OnVectors : PrimOp → Type 0 where
+  OnMake : OnVectors MakeVector
+  OnRef : OnVectors VectorRef
+  OnSet : OnVectors VectorSet
+  OnLength : OnVectors VectorLength
 
 module _ (program : Program) (typed : TypesStand program.l)
     (f : FlatState program.meaning.Cast) (places : List ℕ) (objects : List Object) (h : Heap)
@@ -111,22 +118,24 @@ module _ (program : Program) (typed : TypesStand program.l)
   carried_all : (ws : List ℕ)
       × AreCarried program.l program.setting.address program.procs program.meaning places objects
       (in_row (values locals group os)) ws
-  carried_all = by_operands os bound
-    where
-      by_operands : (os : List Operand) → operands_bound s.captured count depth os ≡ true → (ws : List ℕ)
-          × AreCarried program.l program.setting.address program.procs program.meaning places objects
-          (in_row (values locals group os)) ws
-      by_operands [] b = ([], tt)
-      by_operands (o ∷ os) b =
-          let x = and_true (operand_bound s.captured count depth o) (operands_bound s.captured count depth os) b in
-          let c = value_carried (serving_scene program typed f places
-          (flat_operate program.procs (mode_of program) f.store f.world MakeVector [] f.frames) 0 0 0 0 h.words
-          (room_over program size waiting))
-          f.world h
-          (as_it_was program f h.words) objects
-          filled waiting size (stays_in program size waiting) rests s count group depth locals o x.0 words fits.knows in
-          let cs = by_operands os x.1 in
-          (c.0 ∷ cs.0, (c.1, cs.1))
+  carried_all =
+      values_carried (serving_scene program typed f places
+      (flat_operate program.procs (mode_of program) f.store f.world MakeVector [] f.frames) 0 0 0 0 h.words
+      (room_over program size waiting)) f.world h (as_it_was program f h.words) objects filled waiting size
+      (stays_in program size waiting) rests s count group depth locals os bound words fits.knows
+
+  abbrev pub source : ℕ → LowSource
+  source i = source_at (found_all s 0 os) i
+
+  found_word : (new : Locals) (ws : List ℕ) (i : ℕ) → words_of new (found_all s 0 os) ≡ Some ws
+      → word_of new (source i) ≡ Some (at_or_zero ws i)
+  found_word new ws i e = source_word new (found_all s 0 os) ws i e
+
+  touched_more : (new last : Locals) → ChangesFrom (operand_word s 0) (length os) words new
+      → Changes (test_word s) new last → Touches s (word_for program places objects s next) words last
+  touched_more new last changed more j ne side =
+      more j (not_computed s (test_word s) j (omega arith) (omega arith) side)
+      ∙ touched_all new changed j ne side
 
   module _ (op : PrimOp) (proc : LowProc) (number params : ℕ) (handed : List ℕ → List ℕ) (args : List LowSource)
       (law : OperatorDone program.meaning program.setting program.l program.procs program.casts program.measured
@@ -175,197 +184,118 @@ module _ (program : Program) (typed : TypesStand program.l)
         operator_leaves places objects f.frames) z.0) after cost 0 program.number 0 (entered c proc (handed ws)))
         cost_is z.1)
 
-    pub serves_operator : ((new : Locals) (ws : List ℕ) → words_of new (found_all s 0 os) ≡ Some ws
-        → words_of new args ≡ Some (handed ws))
-        → Calling program typed f floor have 446 after 0
-        (at f.world h waiting size rests words (fetch_all s 0 os
-        (Call (word_for program places objects s next) number args (code_for program places objects s next))))
-    serves_operator told =
-        after_fetching program typed f places objects h filled waiting size rests s count depth group locals wide
-        after 0
-        floor have 446 os words (Call d number args k) bound few fits.knows
-        (λ ws new carried are changed.
-        calls_for k rests 0 (omega arith) (refl, refl) new (touched_all new changed) ws carried (told new ws are))
+    -- its code hands the operands, which were fetched, to the procedure
+    module _ (told : (new : Locals) (ws : List ℕ) → words_of new (found_all s 0 os) ≡ Some ws
+        → words_of new args ≡ Some (handed ws)) where
+      pub serves_operator : perform program.run s d (Prim op os) k ≡ fetch_all s 0 os (Call d number args k)
+          → Served program typed f after 0 0 (at f.world h waiting size rests words (perform program.run s d
+          (Prim op os) k))
+      serves_operator code_is =
+          operator_is_served op after silent
+          (subst (λ c. Calling program typed f floor have 446 after 0 (at f.world h waiting size rests words c))
+          (sym code_is)
+          (after_fetching program typed f places objects h filled waiting size rests s count depth group locals wide
+          after 0 floor have 446 os words (Call d number args k) bound few fits.knows
+          (λ ws new carried are changed.
+          calls_for k rests 0 (omega arith) (refl, refl) new (touched_all new changed) ws carried (told new ws are))))
 
-  abbrev pub source : ℕ → LowSource
-  source i = source_at (found_all s 0 os) i
+      -- a box in a wrapper: the kind of what stands there is tested first
+      module _ (u : FlatValue program.meaning.Cast) (cast : program.meaning.Cast)
+          (others : List (FlatValue program.meaning.Cast)) (wrapped : values locals group os ≡ RunWrap u cast ∷ others)
+          (one : Code) where
+        abbrev tested : Code
+        tested = fetch_all s 0 os (of_kind s (source 0) 5 one (Call d number args Done) k)
 
-  found_word : (new : Locals) (ws : List ℕ) (i : ℕ) → words_of new (found_all s 0 os) ≡ Some ws
-      → word_of new (source i) ≡ Some (at_or_zero ws i)
-  found_word new ws i e = source_word new (found_all s 0 os) ws i e
+        first_wrapped : (ws : List ℕ)
+            → AreCarried program.l program.setting.address program.procs program.meaning places objects
+            (in_row (RunWrap u cast ∷ others)) ws → IsWrapper program.l objects (at_or_zero ws 0)
+        first_wrapped [] c = absurd c
+        first_wrapped (w ∷ ws) c = wrapped_there program places objects u cast [] w c.0
 
-  pub vector_made : operator_cost program.procs (mode_of program) (prices_of program) MakeVector
-      (values locals group os)
-      ≡ cost_of program f → Served program typed f
-      (flat_operate program.procs (mode_of program) f.store f.world MakeVector (values locals group os) f.frames) 0 0
-      (at f.world h waiting size rests words (fetch_all s 0 os (Call (word_for program places objects s next)
-      program.run.fill (source 0 ∷ source 1 ∷ []) (code_for program places objects s next))))
-  vector_made cost_is =
-      operator_is_served MakeVector
-      (flat_operate program.procs (mode_of program) f.store f.world MakeVector (values locals group os) f.frames)
-      (silent MakeVector program.cells.fill program.run.fill 2
-      (λ ws. at_or_zero ws 0 ∷ at_or_zero ws 1 ∷ []) (source 0 ∷ source 1 ∷ []) program.cells.fills
-      program.cells.fill_stands (λ ws. refl) tt cost_is)
-      (serves_operator MakeVector program.cells.fill program.run.fill 2
-      (λ ws. at_or_zero ws 0 ∷ at_or_zero ws 1 ∷ []) (source 0 ∷ source 1 ∷ []) program.cells.fills
-      program.cells.fill_stands (λ ws. refl) tt cost_is
-      (λ new ws e. both_words _ _ _ _ (found_word new ws 0 e) (both_words _ _ _ _ (found_word new ws 1 e) refl)))
+        serves_tested : Calling program typed f floor have 446 after 0 (at f.world h waiting size rests words tested)
+        serves_tested =
+            after_fetching program typed f places objects h filled waiting size rests s count depth group locals wide
+            after 0 floor have 446 os words (of_kind s (source 0) 5 one (Call d number args Done) k) bound few
+            fits.knows
+            (λ ws new carried are changed.
+            not_of_kind program typed f places objects h filled waiting size rests s count depth group locals wide
+            after 0 floor have 446 (source 0) (at_or_zero ws 0) 5 one (Call d number args Done) k new (omega arith)
+            (λ z. omega (arith, z)) (λ z. omega (arith, z)) (found_word new ws 0 are)
+            (first_wrapped ws (subst (λ vs. AreCarried program.l program.setting.address program.procs program.meaning
+            places objects (in_row vs) ws) wrapped carried))
+            (λ last more.
+            let still = found_all_same (serving_scene program typed f places after 0 0 0 0 h.words
+            (room_over program size waiting)) f.world h (as_it_was program f h.words) objects filled waiting size
+            (stays_in program size waiting) rests s count group depth locals os 0 bound (omega (arith, few)) new last
+            more ∙ are in
+            let t = at f.world h waiting size (k ∷ rests) last (Call d number args Done) in
+            calls_now program typed f floor have 446 after 0 t
+            (lower_floor program typed f (10 + floor) floor have 446 after 0 t (omega arith)
+            (calls_for Done (k ∷ rests) 1 (omega arith) (refl, (refl, refl)) last (touched_more new last changed more)
+            ws carried (told last ws still)))))
 
-  pub vector_read : operator_cost program.procs (mode_of program) (prices_of program) VectorRef (values locals group os)
-      ≡ cost_of program f → Served program typed f
-      (flat_operate program.procs (mode_of program) f.store f.world VectorRef (values locals group os) f.frames) 0 0
-      (at f.world h waiting size rests words (fetch_all s 0 os (Call (word_for program places objects s next)
-      program.run.read (Number 1 ∷ source 0 ∷ source 1 ∷ []) (code_for program places objects s next))))
-  vector_read cost_is =
-      operator_is_served VectorRef
-      (flat_operate program.procs (mode_of program) f.store f.world VectorRef (values locals group os) f.frames)
-      (silent VectorRef program.cells.read program.run.read 3
-      (λ ws. 1 ∷ at_or_zero ws 0 ∷ at_or_zero ws 1 ∷ []) (Number 1 ∷ source 0 ∷ source 1 ∷ []) program.cells.reads
-      program.cells.read_stands (λ ws. refl) tt cost_is)
-      (serves_operator VectorRef program.cells.read program.run.read 3
-      (λ ws. 1 ∷ at_or_zero ws 0 ∷ at_or_zero ws 1 ∷ []) (Number 1 ∷ source 0 ∷ source 1 ∷ []) program.cells.reads
-      program.cells.read_stands (λ ws. refl) tt cost_is
+        pub serves_wrapped : perform program.run s d (Prim op os) k ≡ tested
+            → Served program typed f after 0 0 (at f.world h waiting size rests words (perform program.run s d
+            (Prim op os) k))
+        serves_wrapped code_is =
+            operator_is_served op after silent
+            (subst (λ c. Calling program typed f floor have 446 after 0 (at f.world h waiting size rests words c))
+            (sym code_is) serves_tested)
+
+  -- what is shown of an operator
+  abbrev pub IsServed : PrimOp → Type 0
+  IsServed op =
+      operator_cost program.procs (mode_of program) (prices_of program) op (values locals group os) ≡ cost_of program f
+      → Served program typed f
+      (flat_operate program.procs (mode_of program) f.store f.world op (values locals group os) f.frames) 0 0
+      (at f.world h waiting size rests words (perform program.run s d (Prim op os) k))
+
+  -- the operators on vectors
+  pub vectors_served : (op : PrimOp) → OnVectors op → IsServed op
+  vectors_served _ OnMake cost_is =
+      serves_operator MakeVector program.serves.cells.fill program.run.fill 2
+      (λ ws. at_or_zero ws 0 ∷ at_or_zero ws 1 ∷ [])
+      (source 0 ∷ source 1 ∷ []) program.serves.cells.fills program.serves.cells.fill_stands (λ ws. refl) tt cost_is
+      (λ new ws e. both_words _ _ _ _ (found_word new ws 0 e) (both_words _ _ _ _ (found_word new ws 1 e) refl)) refl
+  vectors_served _ OnRef cost_is =
+      serves_operator VectorRef program.serves.cells.read program.run.read 3
+      (λ ws. 1 ∷ at_or_zero ws 0 ∷ at_or_zero ws 1 ∷ []) (Number 1 ∷ source 0 ∷ source 1 ∷ [])
+      program.serves.cells.reads
+      program.serves.cells.read_stands (λ ws. refl) tt cost_is
       (λ new ws e. both_words _ _ _ _ refl (both_words _ _ _ _ (found_word new ws 0 e)
-      (both_words _ _ _ _ (found_word new ws 1 e) refl))))
-
-  pub vector_measured : operator_cost program.procs (mode_of program) (prices_of program) VectorLength
-      (values locals group os)
-      ≡ cost_of program f → Served program typed f
-      (flat_operate program.procs (mode_of program) f.store f.world VectorLength (values locals group os) f.frames) 0 0
-      (at f.world h waiting size rests words (fetch_all s 0 os (Call (word_for program places objects s next)
-      program.run.read (Number 2 ∷ source 0 ∷ Number 0 ∷ []) (code_for program places objects s next))))
-  vector_measured cost_is =
-      operator_is_served VectorLength
-      (flat_operate program.procs (mode_of program) f.store f.world VectorLength (values locals group os) f.frames)
-      (silent VectorLength program.cells.read program.run.read 3
-      (λ ws. 2 ∷ at_or_zero ws 0 ∷ 0 ∷ []) (Number 2 ∷ source 0 ∷ Number 0 ∷ []) program.cells.measures
-      program.cells.read_stands (λ ws. refl) tt cost_is)
-      (serves_operator VectorLength program.cells.read program.run.read 3
-      (λ ws. 2 ∷ at_or_zero ws 0 ∷ 0 ∷ []) (Number 2 ∷ source 0 ∷ Number 0 ∷ []) program.cells.measures
-      program.cells.read_stands (λ ws. refl) tt cost_is
-      (λ new ws e. both_words _ _ _ _ refl (both_words _ _ _ _ (found_word new ws 0 e)
-      (both_words _ _ _ _ refl refl))))
-
-  pub vector_written : operator_cost program.procs (mode_of program) (prices_of program) VectorSet
-      (values locals group os)
-      ≡ cost_of program f → Served program typed f
-      (flat_operate program.procs (mode_of program) f.store f.world VectorSet (values locals group os) f.frames) 0 0
-      (at f.world h waiting size rests words (fetch_all s 0 os (Call (word_for program places objects s next)
-      program.run.write (Number 1 ∷ source 0 ∷ source 1 ∷ source 2 ∷ []) (code_for program places objects s next))))
-  vector_written cost_is =
-      operator_is_served VectorSet
-      (flat_operate program.procs (mode_of program) f.store f.world VectorSet (values locals group os) f.frames)
-      (silent VectorSet program.cells.write program.run.write 4
-      (λ ws. 1 ∷ at_or_zero ws 0 ∷ at_or_zero ws 1 ∷ at_or_zero ws 2 ∷ [])
-      (Number 1 ∷ source 0 ∷ source 1 ∷ source 2 ∷ []) program.cells.writes program.cells.write_stands
-      (λ ws. refl) tt cost_is)
-      (serves_operator VectorSet program.cells.write program.run.write 4
-      (λ ws. 1 ∷ at_or_zero ws 0 ∷ at_or_zero ws 1 ∷ at_or_zero ws 2 ∷ [])
-      (Number 1 ∷ source 0 ∷ source 1 ∷ source 2 ∷ []) program.cells.writes program.cells.write_stands
+      (both_words _ _ _ _ (found_word new ws 1 e) refl))) refl
+  vectors_served _ OnLength cost_is =
+      serves_operator VectorLength program.serves.cells.read program.run.read 3 (λ ws. 2 ∷ at_or_zero ws 0 ∷ 0 ∷ [])
+      (Number 2 ∷ source 0 ∷ Number 0 ∷ []) program.serves.cells.measures program.serves.cells.read_stands
       (λ ws. refl) tt cost_is
       (λ new ws e. both_words _ _ _ _ refl (both_words _ _ _ _ (found_word new ws 0 e)
-      (both_words _ _ _ _ (found_word new ws 1 e) (both_words _ _ _ _ (found_word new ws 2 e) refl)))))
+      (both_words _ _ _ _ refl refl))) refl
+  vectors_served _ OnSet cost_is =
+      serves_operator VectorSet program.serves.cells.write program.run.write 4
+      (λ ws. 1 ∷ at_or_zero ws 0 ∷ at_or_zero ws 1 ∷ at_or_zero ws 2 ∷ [])
+      (Number 1 ∷ source 0 ∷ source 1 ∷ source 2 ∷ []) program.serves.cells.writes program.serves.cells.write_stands
+      (λ ws. refl) tt cost_is
+      (λ new ws e. both_words _ _ _ _ refl (both_words _ _ _ _ (found_word new ws 0 e)
+      (both_words _ _ _ _ (found_word new ws 1 e) (both_words _ _ _ _ (found_word new ws 2 e) refl)))) refl
 
-  -- ---- boxes in wrappers: the kind of what stands there is tested first
-
-  touched_more : (new last : Locals) → ChangesFrom (operand_word s 0) (length os) words new
-      → Changes (test_word s) new last → Touches s (word_for program places objects s next) words last
-  touched_more new last changed more j ne side =
-      more j (not_computed s (test_word s) j (omega arith) (omega arith) side)
-      ∙ touched_all new changed j ne side
-
-  module _ (op : PrimOp) (proc : LowProc) (number params : ℕ) (handed : List ℕ → List ℕ) (args : List LowSource)
-      (law : OperatorDone program.meaning program.setting program.l program.procs program.casts program.measured
-      program.run op proc handed) (stands : StandsAs program.setting number proc params)
-      (long : (ws : List ℕ) → length (handed ws)
-      ≡ params)
-      (on : IsHandedOn program.meaning program.setting program.l program.procs program.casts program.measured
-      program.run
-      op (values locals group os))
-      (cost_is : operator_cost program.procs (mode_of program) (prices_of program) op (values locals group os)
-      ≡ cost_of program f) (u : FlatValue program.meaning.Cast) (cast : program.meaning.Cast)
+  -- boxes in wrappers
+  module _ (u : FlatValue program.meaning.Cast) (cast : program.meaning.Cast)
       (others : List (FlatValue program.meaning.Cast)) (wrapped : values locals group os ≡ RunWrap u cast ∷ others)
-      (one : Code) (told : (new : Locals) (ws : List ℕ) → words_of new (found_all s 0 os) ≡ Some ws
-      → words_of new args ≡ Some (handed ws)) where
-    first_wrapped : (ws : List ℕ)
-        → AreCarried program.l program.setting.address program.procs program.meaning places objects
-        (in_row (RunWrap u cast ∷ others)) ws → IsWrapper program.l objects (at_or_zero ws 0)
-    first_wrapped [] c = absurd c
-    first_wrapped (w ∷ ws) c = wrapped_there program places objects u cast [] w c.0
+    where
+      pub box_read : IsServed Unbox
+      box_read cost_is =
+          serves_wrapped Unbox program.serves.cells.read program.run.read 3 (λ ws. 0 ∷ at_or_zero ws 0 ∷ 0 ∷ [])
+          (Number 0 ∷ source 0 ∷ Number 0 ∷ []) program.serves.cells.unboxes program.serves.cells.read_stands
+          (λ ws. refl)
+          (u, cast, others, wrapped) cost_is
+          (λ new ws e. both_words _ _ _ _ refl (both_words _ _ _ _ (found_word new ws 0 e)
+          (both_words _ _ _ _ refl refl))) u cast others wrapped (Load d (source 0) 8 Done) refl
 
-    pub serves_tested : Calling program typed f floor have 446
-        (flat_operate program.procs (mode_of program) f.store f.world op (values locals group os) f.frames) 0
-        (at f.world h waiting size rests words (fetch_all s 0 os (of_kind s (source 0) 5 one
-        (Call (word_for program places objects s next) number args Done) (code_for program places objects s next))))
-    serves_tested =
-        after_fetching program typed f places objects h filled waiting size rests s count depth group locals wide
-        (flat_operate program.procs (mode_of program) f.store f.world op (values locals group os) f.frames) 0 floor
-        have 446 os words
-        (of_kind s (source 0) 5 one (Call d number args Done) k) bound few fits.knows
-        (λ ws new carried are changed.
-        not_of_kind program typed f places objects h filled waiting size rests s count depth group locals wide
-        (flat_operate program.procs (mode_of program) f.store f.world op (values locals group os) f.frames) 0
-        floor have 446 (source 0)
-        (at_or_zero ws 0) 5 one (Call d number args Done) k new (omega arith) (λ z. omega (arith, z))
-        (λ z. omega (arith, z)) (found_word new ws 0 are)
-        (first_wrapped ws (subst (λ vs. AreCarried program.l program.setting.address program.procs program.meaning
-        places objects (in_row vs) ws) wrapped carried))
-        (λ last more.
-        let still = found_all_same (serving_scene program typed f places
-        (flat_operate program.procs (mode_of program) f.store f.world op (values locals group os) f.frames) 0 0 0 0
-        h.words (room_over program size waiting)) f.world
-        h (as_it_was program f h.words) objects filled waiting size (stays_in program size waiting) rests s count group
-        depth locals os 0 bound
-        (omega (arith, few)) new
-        last more ∙ are in
-        let x = flat_operate program.procs (mode_of program) f.store f.world op (values locals group os) f.frames in
-        let t = at f.world h waiting size (k ∷ rests) last (Call d number args Done) in
-        calls_now program typed f floor have 446 x 0 t
-        (lower_floor program typed f (10 + floor) floor have 446 x 0 t (omega arith)
-        (calls_for op proc number params handed args law stands long on cost_is Done (k ∷ rests) 1 (omega arith)
-        (refl, (refl, refl)) last
-        (touched_more new last changed more) ws carried (told last ws still)))))
-
-  pub box_read : (u : FlatValue program.meaning.Cast) (cast : program.meaning.Cast)
-      (others : List (FlatValue program.meaning.Cast)) → values locals group os ≡ RunWrap u cast ∷ others
-      → operator_cost program.procs (mode_of program) (prices_of program) Unbox (values locals group os)
-      ≡ cost_of program f → Served program typed f
-      (flat_operate program.procs (mode_of program) f.store f.world Unbox (values locals group os) f.frames) 0 0
-      (at f.world h waiting size rests words (fetch_all s 0 os (of_kind s (source 0) 5
-      (Load (word_for program places objects s next) (source 0) 8 Done)
-      (Call (word_for program places objects s next) program.run.read (Number 0 ∷ source 0 ∷ Number 0 ∷ []) Done)
-      (code_for program places objects s next))))
-  box_read u cast others e cost_is =
-      operator_is_served Unbox
-      (flat_operate program.procs (mode_of program) f.store f.world Unbox (values locals group os) f.frames)
-      (silent Unbox program.cells.read program.run.read 3 (λ ws. 0 ∷ at_or_zero ws 0 ∷ 0 ∷ [])
-      (Number 0 ∷ source 0 ∷ Number 0 ∷ []) program.cells.unboxes program.cells.read_stands (λ ws. refl)
-      (u, cast, others, e) cost_is)
-      (serves_tested Unbox program.cells.read program.run.read 3 (λ ws. 0 ∷ at_or_zero ws 0 ∷ 0 ∷ [])
-      (Number 0 ∷ source 0 ∷ Number 0 ∷ []) program.cells.unboxes program.cells.read_stands (λ ws. refl)
-      (u, cast, others, e) cost_is u cast others e (Load d (source 0) 8 Done)
-      (λ new ws e. both_words _ _ _ _ refl (both_words _ _ _ _ (found_word new ws 0 e)
-      (both_words _ _ _ _ refl refl))))
-
-  pub box_written : (u : FlatValue program.meaning.Cast) (cast : program.meaning.Cast)
-      (others : List (FlatValue program.meaning.Cast)) → values locals group os ≡ RunWrap u cast ∷ others
-      → operator_cost program.procs (mode_of program) (prices_of program) BoxSet (values locals group os)
-      ≡ cost_of program f → Served program typed f
-      (flat_operate program.procs (mode_of program) f.store f.world BoxSet (values locals group os) f.frames) 0 0
-      (at f.world h waiting size rests words (fetch_all s 0 os (of_kind s (source 0) 5
-      (Store (source 1) (source 0) 8 (Set (word_for program places objects s next) (Number 0) Done))
-      (Call (word_for program places objects s next) program.run.write
-      (Number 0 ∷ source 0 ∷ Number 0 ∷ source 1 ∷ []) Done)
-      (code_for program places objects s next))))
-  box_written u cast others e cost_is =
-      operator_is_served BoxSet
-      (flat_operate program.procs (mode_of program) f.store f.world BoxSet (values locals group os) f.frames)
-      (silent BoxSet program.cells.write program.run.write 4
-      (λ ws. 0 ∷ at_or_zero ws 0 ∷ 0 ∷ at_or_zero ws 1 ∷ []) (Number 0 ∷ source 0 ∷ Number 0 ∷ source 1 ∷ [])
-      program.cells.sets program.cells.write_stands (λ ws. refl) (u, cast, others, e) cost_is)
-      (serves_tested BoxSet program.cells.write program.run.write 4
-      (λ ws. 0 ∷ at_or_zero ws 0 ∷ 0 ∷ at_or_zero ws 1 ∷ []) (Number 0 ∷ source 0 ∷ Number 0 ∷ source 1 ∷ [])
-      program.cells.sets program.cells.write_stands (λ ws. refl) (u, cast, others, e) cost_is u cast others e
-      (Store (source 1) (source 0) 8 (Set d (Number 0) Done))
-      (λ new ws e. both_words _ _ _ _ refl (both_words _ _ _ _ (found_word new ws 0 e)
-      (both_words _ _ _ _ refl (both_words _ _ _ _ (found_word new ws 1 e) refl)))))
+      pub box_written : IsServed BoxSet
+      box_written cost_is =
+          serves_wrapped BoxSet program.serves.cells.write program.run.write 4
+          (λ ws. 0 ∷ at_or_zero ws 0 ∷ 0 ∷ at_or_zero ws 1 ∷ []) (Number 0 ∷ source 0 ∷ Number 0 ∷ source 1 ∷ [])
+          program.serves.cells.sets program.serves.cells.write_stands (λ ws. refl) (u, cast, others, wrapped) cost_is
+          (λ new ws e. both_words _ _ _ _ refl (both_words _ _ _ _ (found_word new ws 0 e)
+          (both_words _ _ _ _ refl (both_words _ _ _ _ (found_word new ws 1 e) refl)))) u cast others wrapped
+          (Store (source 1) (source 0) 8 (Set d (Number 0) Done)) refl

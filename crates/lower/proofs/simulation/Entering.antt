@@ -9,7 +9,6 @@ use Rattle.low_ir.specs.Procedures.{Code, Proc as LowProc}
 use Rattle.low_ir.specs.Prices.{low_price, step_price}
 use Rattle.low_ir.specs.Steps.{Locals, no_locals}
 use Rattle.low_ir.specs.Run.{Waiting as LowWaiting, LowState, bind, code_step, word_of, words_of, and_more}
-use Rattle.cast_modes.specs.RunValues.{RunFun}
 use Rattle.cast_modes.specs.ValueSteps.{Own, Return, Entering}
 use Rattle.coercion_norm.specs.Held.{TypesStand}
 use Rattle.coercion_norm.specs.Objects.{Object}
@@ -18,12 +17,9 @@ use Rattle.flat_ir.specs.Machine.{FlatCode, FlatValue, FlatValues, FlatFrame, Fl
 use Rattle.flat_ir.specs.Machine.{Inside}
 use Rattle.flat_ir.specs.Machine.{locals_of, flat_state_at}
 use Rattle.flat_ir.specs.Levels.{levels}
-use Rattle.lower.specs.Numbering.{function_offset}
 use Rattle.rt_cast.specs.Frames.{stack_room}
 use Rattle.rt_cast.specs.States.{heap_of}
-use Rattle.lower.specs.Lowered.{low_proc, shape_of}
-use Rattle.lower.specs.CarriedValues.{IsMember, IsGroup}
-use Rattle.lower.specs.Relation.{OwnGroup}
+use Rattle.lower.specs.Lowered.{low_proc}
 use Rattle.lower.specs.SchemeLaws.{Calls, CallsAt, call_leaves}
 use Rattle.lower.specs.Meanings.{is_last}
 use Rattle.lower.proofs.heap.Objects.{none_some, same_some}
@@ -34,34 +30,10 @@ use Rattle.lower.proofs.words.Steps.{at}
 use Rattle.lower.proofs.words.EmitPrices.{sources_most, source_most, slot_most}
 use Rattle.lower.proofs.simulation.Groups.{proc_is_closed}
 use Rattle.lower.proofs.simulation.Way.{Program, after_wraps, N, due_of, due_most, waiting_dues}
-use Rattle.lower.proofs.simulation.Gives.{CarriedHere, CallersHere, levels_above}
-use Rattle.lower.proofs.simulation.Calls.{entered, proc_at}
+use Rattle.lower.proofs.simulation.Gives.{CallersHere, levels_above}
+use Rattle.lower.proofs.simulation.Calls.{entered, own_of, proc_at}
 use Rattle.lower.proofs.simulation.Served.{OnServed, Lands, SettledWith}
 use Rattle.lower.proofs.simulation.Services.{kept_in_front}
-
-module _ (program : Program) (places : List ℕ) (objects : List Object) (first place : ℕ)
-    (captured : FlatValues program.meaning.Cast) (p : Proc) (there : slice_get program.procs (first + place) ≡ Some p)
-    (w : ℕ) (c : CarriedHere program places objects (RunFun (record { first = first; place = place }) captured) w) where
-  member : IsMember program.procs first c.1 (length c.2) place
-  member = c.5.members place c.4
-
-  proc_same : member.proc ≡ p
-  proc_same = same_some member.proc p (sym member.there ∙ there)
-
-  pub own_of : OwnGroup program.setting program.l program.run program.procs program.answer program.meaning places
-      objects (shape_of p) p.group (record { first = first; captured = captured }) w
-  own_of = record {
-    leader = c.0;
-    words = c.2;
-    is = c.3 ∙ ap (λ n. c.0 + function_offset (length c.2) n)
-        (sym (ap (λ q. q.place) (sym proc_same) ∙ member.place_is));
-    long = ap (λ q. q.captured) (sym proc_same) ∙ member.captured_is;
-    inside = (let x = ap (λ q. q.place) (sym proc_same) ∙ member.place_is in
-        let y = ap (λ q. q.group) (sym proc_same) ∙ member.group_is in let z = c.4 in omega (arith, x, y, z));
-    stands = subst (λ n. IsGroup program.l program.setting.address program.procs program.meaning places objects first
-        c.0 n c.2) (sym (ap (λ q. q.group) (sym proc_same) ∙ member.group_is)) c.5;
-    carried = c.6;
-  }
 
 words_long : (locals : Locals) (sources : List LowSource) (ws : List ℕ) → words_of locals sources ≡ Some ws
     → length sources ≡ length ws

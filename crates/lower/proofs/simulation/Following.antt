@@ -2,7 +2,6 @@
 use Rattle.std.proofs.Common.{◌≡◌, ◌⊎◌, ◌<◌, ◌∙◌, zero, inl, inr, ℕ, suc, ◌+◌, ◌≤◌, List, [], Some}
 use Rattle.std.proofs.Common.{None}
 use Rattle.std.proofs.Common.{true, refl, sym, ap, subst, arith, Option, slice_get}
-use Rattle.std.specs.Prelude.{◌==◌, ◌&&◌}
 use Rattle.grift_base.specs.World.{WorldState}
 use Rattle.grift_base.specs.declared.verdicts.Verdict.{Verdict}
 use Rattle.run_laws.specs.Runs.{Any, FollowsBy, NeverWrong}
@@ -21,8 +20,6 @@ use Rattle.flat_ir.specs.Closed.{takes_nothing}
 use Rattle.flat_ir.specs.Counts.{flat_counting, flat_run_in}
 use Rattle.flat_ir.specs.Machine.{FlatFocus, FlatFrame, FlatStore, FlatState, Inside, flat_start, first_world}
 use Rattle.flat_ir.specs.Machine.{flat_turn, flat_state_at, entry_body, new_group}
-use Rattle.std.proofs.Common.{eqb-true}
-use Rattle.std.specs.Prelude.{nat_le}
 use Rattle.low_ir.specs.Steps.{Locals}
 use Rattle.low_ir.specs.Run.{Waiting as LowWaiting}
 use Rattle.cast_modes.specs.RunValues.{RunUnit}
@@ -41,10 +38,8 @@ use Rattle.lower.specs.Storage.{Passes}
 use Rattle.run_laws.proofs.Public.{DoesAt, IndexedSimulation, follows_by_index}
 use Rattle.lower.proofs.simulation.Served.{FillingAt, OnServed, Waits, Next, next_of}
 use Rattle.flat_ir.specs.Counts.{flat_turn_wraps}
-use Rattle.flat_ir.specs.Levels.{levels}
-use Rattle.lower.proofs.simulation.Starts.{entered_flat, entered_low, first_filled, first_live}
+use Rattle.lower.proofs.simulation.Starts.{entered_flat, entered_low, first_filled, first_step, first_live}
 use Rattle.lower.proofs.words.Steps.{at}
-use Rattle.lower.proofs.words.Operands.{and_true}
 use Rattle.lower.proofs.simulation.Way.{mode_of}
 use Rattle.lower.proofs.simulation.Way.{Program, R, Seen, Stopping, Way}
 use Rattle.lower.proofs.simulation.Way.{size_of, Live, Over, Settled, after_wraps}
@@ -359,21 +354,14 @@ module _ (program : Program) (typed : TypesStand program.l) where
         → Reaches N (λ t. Alike K M N s0 t × Any (N.shown t) (M.shown s0)) (SomeRel s0) 1 t0
     begun None there e = true_false e
     begun (Some p) there e =
-        let x = and_true (p.params == 0) ((p.captured == 0) && (p.group == 0)) e in
-        let y = and_true (p.captured == 0) (p.group == 0) x.1 in
-        let none : p.params ≡ 0 = eqb-true p.params 0 x.0 in
-        let low = program.stand entry p there in
         let t1 = entered_low program memory statics fits input p in
-        let fine = enters (suc p.params) (levels p.params p.body + 10) (omega (arith, none)) (omega arith) in
-        by_step N (λ t. Alike K M N s0 t × Any (N.shown t) (M.shown s0)) (SomeRel s0) 0 t0 (Go t1) (rw (low, fine) refl)
+        by_step N (λ t. Alike K M N s0 t × Any (N.shown t) (M.shown s0)) (SomeRel s0) 0 t0 (Go t1)
+        (first_step program memory statics fits input entry p there e)
         (seen_alike s0 t0 refl ([], first_filled program memory statics fits input), tt)
         (subst (λ o. SomeRel (uncounted (flat_state_at program.procs program.told
         (Own (Inside (entry_body o) (λ level. RunUnit) (new_group 0 []))) [] [] (first_world input))) t1) (sym there)
         (settled_in (uncounted (entered_flat program memory statics fits input p)) 0 t1
-        (inl (first_live program memory statics fits input entry p there none y.0 y.1))))
-      where
-        enters : (n k : ℕ) → n ≡ 1 → 10 ≤ k → ((1 == n) && (nat_le n 8 && nat_le n k)) ≡ true
-        enters n k a b = grind (arith, a, b)
+        (inl (first_live program memory statics fits input entry p there e))))
 
     pub words_follow : NeverWrong (flat_run_in program.procs entry (mode_of program) program.told input)
         → FollowsBy (λ shown counts. Passes program.meaning program.setting program.l shown counts.wraps) Any

@@ -1,5 +1,5 @@
 -- A value is given to what waits for it.
-use Rattle.std.proofs.Common.{◌≡◌, inl, inr, ℕ, suc, ◌+◌, ◌<◌, ◌≤◌, List, [], ◌∷◌, Some}
+use Rattle.std.proofs.Common.{◌≡◌, inl, inr, ℕ, suc, ◌+◌, ◌<◌, ◌≤◌, List, [], ◌∷◌, Some, None}
 use Rattle.std.proofs.Common.{refl, ◌∙◌, arith, le_refl, false}
 use Rattle.low_ir.specs.declared.code.LowSource.TheVariants.{Word}
 use Rattle.low_ir.specs.Procedures.{Code, Return as ReturnCode}
@@ -14,12 +14,16 @@ use Rattle.lower.specs.declared.numbering.Shape.{Shape}
 use Rattle.lower.specs.Numbering.{test_word}
 use Rattle.lower.specs.Emit.{Then, ToCaller, Into}
 use Rattle.lower.specs.Relation.{Carried, Rest, Callers, Gave, Goes}
-use Rattle.lower.proofs.simulation.RelationKept.{rest_same, OwnName, LowName, HighName, SameNamed, local_high}
+use Rattle.lower.proofs.simulation.RelationKept.{rest_same, waits_so, OwnName, LowName, HighName, SameNamed, local_high}
 use Rattle.lower.proofs.words.Operations.{Touches}
 use Rattle.lower.specs.Meanings.{is_last}
 use Rattle.low_ir.specs.Prices.{code_price}
-use Rattle.flat_ir.specs.Machine.{FlatState}
-use Rattle.lower.proofs.simulation.Way.{Program, budget_of}
+use Rattle.flat_ir.specs.Machine.{FlatState, FlatFocus}
+use Rattle.lower.specs.Storage.{Filled}
+use Rattle.lower.specs.CarriedValues.{CellsHeld}
+use Rattle.rt_cast.specs.States.{Heap}
+use Rattle.lower.proofs.words.Steps.{at}
+use Rattle.lower.proofs.simulation.Way.{Program, Live, budget_of}
 
 -- a body has no names below the level at which it stands
 pub levels_above : (depth : ℕ) (body : Body) → depth ≤ levels depth body
@@ -46,6 +50,31 @@ module _ (program : Program) (places : List ℕ) (objects : List Object) where
   RestHere waiting s count size group depth frames next rests words =
       Rest program.setting program.l program.run program.procs program.answer program.meaning places objects
       (CallersHere waiting) s count size group depth frames next rests words
+
+  abbrev pub GoesHere : ℕ → FlatFocus program.meaning.Cast → List (FlatFrame program.meaning.Cast) → List LowWaiting
+      → ℕ → List Code → Locals → Code → Type 0
+  GoesHere due focus frames waiting size rests words code =
+      Goes program.setting program.l program.run program.procs program.answer program.meaning places objects due focus
+      frames (record { count = size; locals = words; code = code; rests = rests }) waiting
+
+  -- both go on, where what is next goes with the active procedure
+  pub living : (h : Heap) (f : FlatState program.meaning.Cast) → f.ended ≡ None
+      → Filled program.meaning program.setting program.l program.number objects h
+      → CellsHeld program.l program.setting.address program.procs program.meaning places objects h.memory places f.store
+      → (waiting : List LowWaiting) (size : ℕ) (rests : List Code) (words : Locals) (code : Code) (due : ℕ)
+      → GoesHere due f.focus f.frames waiting size rests words code
+      → Live program f due (at f.world h waiting size rests words code)
+  living h f is filled cells waiting size rests words code due goes = record {
+    is = is;
+    related = record {
+      places = places;
+      objects = objects;
+      filled = filled;
+      cells = cells;
+      world = refl;
+      goes = goes;
+    };
+  }
 
   -- a word that takes a value is one of the procedure
   pub word_fits : (waiting : List LowWaiting) (s : Shape) (count size : ℕ) (group : Group program.meaning.Cast)
@@ -89,16 +118,8 @@ module _ (program : Program) (places : List ℕ) (objects : List Object) where
             places objects
             (CallersHere waiting) s count size group slot (OwnFrame (Waiting slot rest locals other) ∷ frames)
             (Into d k) rests words new same (
-              record {
-                params = r.0.params;
-                few = r.0.few;
-                deep = le_refl slot;
-                word = r.0.word;
-                same = r.0.same;
-                bound = r.0.bound;
-                room = r.0.room;
-                knows = r.0.knows;
-              },
+              waits_so program.setting program.l program.run program.procs program.answer program.meaning places places
+                  objects objects slot words (le_refl slot) r.0.knows r.0,
               r.1,
               r.2,
               r.3,
@@ -145,9 +166,7 @@ module _ (program : Program) (places : List ℕ) (objects : List Object) where
       (frames : List (FlatFrame program.meaning.Cast)) (next : Then) (rests : List Code) (words new : Locals)
       (v : FlatValue program.meaning.Cast) (w : ℕ) → RestHere waiting s count size group depth frames next rests words
       → CarriedHere v w → new (word_for s next) ≡ Some w → Touches s (word_for s next) words new
-      → Goes program.setting program.l program.run program.procs program.answer program.meaning places objects
-      (due_for next) (Return v)
-      frames (record { count = size; locals = new; code = code_for s next; rests = rests }) waiting
+      → GoesHere (due_for next) (Return v) frames waiting size rests new (code_for s next)
   given waiting s count size group depth frames ToCaller rests words new v w r c e touches =
       inr (record { source = Word (test_word s); w = w; code = refl; is = e; carried = c; callers = r }, le_refl 28)
   given waiting s count size group depth frames (Into d k) rests words new v w r c e touches =

@@ -66,6 +66,7 @@ use Rattle.lower.proofs.simulation.Way.{turn_goal, turn_aim, floor_of, arrives, 
 use Rattle.lower.proofs.simulation.Way.{asks_of, budget_of}
 use Rattle.lower.proofs.simulation.Way.{frames_weight}
 use Rattle.lower.proofs.simulation.Gives.{CarriedHere, RestHere, CallersHere, put_in, word_fits, word_for, code_for}
+use Rattle.lower.proofs.simulation.Gives.{living}
 use Rattle.lower.proofs.simulation.Operations.{wrong_by, move_turns, tuple_turns, part_turns}
 use Rattle.flat_ir.specs.Machine.{flat_cast, set_group, new_group}
 use Rattle.cast_modes.specs.ValueSteps.{casts_onto, decision_wraps, run_enter_wrapped}
@@ -75,8 +76,8 @@ use Rattle.lower.proofs.simulation.Casts.{cast_served}
 use Rattle.lower.proofs.simulation.Parts.{part_served, dyn_part_served}
 use Rattle.lower.proofs.simulation.Applied.{call_served, all_plain_onto}
 use Rattle.lower.proofs.simulation.Resumed.{resumed}
-use Rattle.lower.proofs.simulation.Cells.{vector_made, vector_read, vector_written, vector_measured, box_read}
-use Rattle.lower.proofs.simulation.Cells.{box_written}
+use Rattle.lower.proofs.simulation.Cells.{OnVectors, OnMake, OnRef, OnSet, OnLength}
+use Rattle.lower.proofs.simulation.Cells.{vectors_served, box_read, box_written}
 use Rattle.lower.proofs.simulation.Boxes.{box_made, box_read_here, box_written_here}
 use Rattle.lower.proofs.simulation.Operators.{one_operand, two_operands}
 use Rattle.cast_modes.specs.ValueSteps.{run_unbox_cell, run_writes_cell}
@@ -269,34 +270,36 @@ module _ (program : Program) (typed : TypesStand program.l) where
       read_falls [] = number_falls (next_number world)
       read_falls (v ∷ vs) = wrong_falls
 
+      -- two integers give a value
+      of_ints : (value : ℤ → ℤ → FlatValue program.meaning.Cast) (vs : List (FlatValue program.meaning.Cast))
+          → FallsAt f (run_on_ints (mode_of program) (flat_arity program.procs) (flat_entered program.procs) store world
+          (λ a b. On (Return (value a b)) frames store world) vs)
+      of_ints value vs =
+          on_ints (λ a b. On (Return (value a b)) frames store world) (λ a b. given_falls (value a b) world) vs
+
       divided_falls : (t : Bool) (v : FlatValue program.meaning.Cast)
           → FallsAt f (if t then TrapOf ZeroDivisor world else On (Return v) frames store world)
       divided_falls true v = omega arith
       divided_falls false v = given_falls v world
 
+      -- they do, or trap where the second is zero
+      by_divisor : (value : ℤ → ℤ → FlatValue program.meaning.Cast) (vs : List (FlatValue program.meaning.Cast))
+          → FallsAt f (run_on_ints (mode_of program) (flat_arity program.procs) (flat_entered program.procs) store world
+          (λ a b. if int_eq b (pos 0) then TrapOf ZeroDivisor world else On (Return (value a b)) frames store world) vs)
+      by_divisor value vs =
+          on_ints (λ a b. if int_eq b (pos 0) then TrapOf ZeroDivisor world
+          else On (Return (value a b)) frames store world)
+          (λ a b. divided_falls (int_eq b (pos 0)) (value a b)) vs
+
       operator_falls : (op : PrimOp) → is_plain op ≡ true → (vs : List (FlatValue program.meaning.Cast))
           → FallsAt f (flat_operate program.procs (mode_of program) store world op vs frames)
-      operator_falls Add c vs =
-          on_ints (λ a b. On (Return (RunInt (int_wrap w64 (a +ℤ b)))) frames store world)
-          (λ a b. given_falls (RunInt (int_wrap w64 (a +ℤ b))) world) vs
-      operator_falls Sub c vs =
-          on_ints (λ a b. On (Return (RunInt (int_wrap w64 (a -ℤ b)))) frames store world)
-          (λ a b. given_falls (RunInt (int_wrap w64 (a -ℤ b))) world) vs
-      operator_falls Lt c vs =
-          on_ints (λ a b. On (Return (RunBool (int_lt a b))) frames store world)
-          (λ a b. given_falls (RunBool (int_lt a b)) world) vs
-      operator_falls Gt c vs =
-          on_ints (λ a b. On (Return (RunBool (int_lt b a))) frames store world)
-          (λ a b. given_falls (RunBool (int_lt b a)) world) vs
-      operator_falls Le c vs =
-          on_ints (λ a b. On (Return (RunBool (int_le a b))) frames store world)
-          (λ a b. given_falls (RunBool (int_le a b)) world) vs
-      operator_falls Ge c vs =
-          on_ints (λ a b. On (Return (RunBool (int_le b a))) frames store world)
-          (λ a b. given_falls (RunBool (int_le b a)) world) vs
-      operator_falls Equal c vs =
-          on_ints (λ a b. On (Return (RunBool (int_eq a b))) frames store world)
-          (λ a b. given_falls (RunBool (int_eq a b)) world) vs
+      operator_falls Add c vs = of_ints (λ a b. RunInt (int_wrap w64 (a +ℤ b))) vs
+      operator_falls Sub c vs = of_ints (λ a b. RunInt (int_wrap w64 (a -ℤ b))) vs
+      operator_falls Lt c vs = of_ints (λ a b. RunBool (int_lt a b)) vs
+      operator_falls Gt c vs = of_ints (λ a b. RunBool (int_lt b a)) vs
+      operator_falls Le c vs = of_ints (λ a b. RunBool (int_le a b)) vs
+      operator_falls Ge c vs = of_ints (λ a b. RunBool (int_le b a)) vs
+      operator_falls Equal c vs = of_ints (λ a b. RunBool (int_eq a b)) vs
       operator_falls Not c vs =
           on_bool (λ b. On (Return (RunBool (not b))) frames store world) (λ b. given_falls (RunBool (not b)) world) vs
       operator_falls PrintInt c vs =
@@ -304,17 +307,9 @@ module _ (program : Program) (typed : TypesStand program.l) where
           (λ a. given_falls RunUnit (printing (signed_decimal a) world)) vs
       operator_falls Newline c vs = newline_falls vs
       operator_falls ReadInt c vs = read_falls vs
-      operator_falls Mul c vs =
-          on_ints (λ a b. On (Return (RunInt (int_wrap w64 (a *ℤ b)))) frames store world)
-          (λ a b. given_falls (RunInt (int_wrap w64 (a *ℤ b))) world) vs
-      operator_falls Quot c vs =
-          on_ints (λ a b. if int_eq b (pos 0) then TrapOf ZeroDivisor world
-          else On (Return (RunInt (int_wrapping_div w64 a b))) frames store world)
-          (λ a b. divided_falls (int_eq b (pos 0)) (RunInt (int_wrapping_div w64 a b))) vs
-      operator_falls Rem c vs =
-          on_ints (λ a b. if int_eq b (pos 0) then TrapOf ZeroDivisor world
-          else On (Return (RunInt (int_rem a b))) frames store world)
-          (λ a b. divided_falls (int_eq b (pos 0)) (RunInt (int_rem a b))) vs
+      operator_falls Mul c vs = of_ints (λ a b. RunInt (int_wrap w64 (a *ℤ b))) vs
+      operator_falls Quot c vs = by_divisor (λ a b. RunInt (int_wrapping_div w64 a b)) vs
+      operator_falls Rem c vs = by_divisor (λ a b. RunInt (int_rem a b)) vs
       operator_falls MakeBox c vs = true_false c
       operator_falls Unbox c vs = true_false c
       operator_falls BoxSet c vs = true_false c
@@ -340,6 +335,28 @@ module _ (program : Program) (typed : TypesStand program.l) where
       module _ (waiting : List LowWaiting) (size : ℕ) (rests : List Code) (words : Locals) where
         abbrev At : Code → LowState
         At code = at world h waiting size rests words code
+
+        -- the arguments of a call are gone over
+        goes_over : (fo : Operand) (os : List Operand) (locals : FlatLocals program.meaning.Cast)
+            (group : Group program.meaning.Cast) (s : Shape) (count depth : ℕ) (next : Then)
+            → FitsHere s count size group depth locals words (Call fo os)
+            → RestHere program places objects waiting s count size group depth frames next rests words
+            → (v : FlatValue program.meaning.Cast) (done : List (FlatValue program.meaning.Cast))
+            (todo : List (Pending program.meaning.Cast FlatCode)) → value locals group fo ≡ v
+            → onto done (pending_values todo) ≡ values locals group os → NoCasts todo
+            → Live program (st (Entering v done todo) frames store world) 0 (At (emit program.run s (Call fo os) next))
+        goes_over fo os locals group s count depth next fits rest v done todo function arguments plain =
+            living program places objects h (st (Entering v done todo) frames store world) refl filled cells waiting
+            size rests words (emit program.run s (Call fo os) next) 0 (record {
+              operand = fo;
+              operands = os;
+              locals = locals;
+              group = group;
+              runs = record { s = s; count = count; depth = depth; next = next; is = refl; fits = fits; rest = rest };
+              function = function;
+              arguments = arguments;
+              plain = plain;
+            })
 
         -- a body runs
         module _ (locals : FlatLocals program.meaning.Cast) (group : Group program.meaning.Cast) (s : Shape)
@@ -418,10 +435,29 @@ module _ (program : Program) (typed : TypesStand program.l) where
               (flat_operate program.procs (mode_of program) store world op (values locals group os) frames) 0 0 (At c))
               (sym (give_as (Prim op os) next (λ o e. absurd (let z : ⊥ = cc in z)))) x)
 
+          runs_vectors : (op : PrimOp) (os : List Operand) → OnVectors op → Run (Give (Prim op os))
+          runs_vectors op os on fits rest =
+              as_served op os (vectors_served program typed (fl (Give (Prim op os))) places objects h filled cells
+              waiting size rests words s count depth group locals op os next fits rest fits.few op on refl)
+
           -- an operator in place
           abbrev Placed : PrimOp → List Operand → FlatAfter program.meaning.Cast → Type 0
           Placed op os x =
               Does (fl (Give (Prim op os))) x 0 (At (give program.run s (Prim op os) next))
+
+          -- the same where its operands have these values
+          abbrev OnValues : PrimOp → List Operand → List (FlatValue program.meaning.Cast) → Type 0
+          OnValues op os vs = Placed op os (flat_operate program.procs (mode_of program) store world op vs frames)
+
+          -- a procedure of the scheme does it
+          in_wrapper : (op : PrimOp) (os : List Operand) (vs : List (FlatValue program.meaning.Cast))
+              → values locals group os ≡ vs
+              → Served program typed (fl (Give (Prim op os)))
+              (flat_operate program.procs (mode_of program) store world op (values locals group os) frames) 0 0
+              (At (perform program.run s (word_for program places objects s next) (Prim op os)
+              (code_for program places objects s next)))
+              → OnValues op os vs
+          in_wrapper op os vs e x = subst (λ vs. OnValues op os vs) e (as_served op os x)
 
           as_placed : (op : PrimOp) (os : List Operand) (x : FlatAfter program.meaning.Cast)
               → Follows program (fl (Give (Prim op os))) x
@@ -473,16 +509,11 @@ module _ (program : Program) (typed : TypesStand program.l) where
           reads_box os fits rest = by_values (values locals group os) refl
             where
               by_values : (vs : List (FlatValue program.meaning.Cast)) → values locals group os ≡ vs
-                  → Does (fl (Give (Prim Unbox os)))
-                  (flat_operate program.procs (mode_of program) store world Unbox vs frames) 0
-                  (At (give program.run s (Prim Unbox os) next))
+                  → OnValues Unbox os vs
               by_values (RunWrap u c ∷ others) e =
-                  subst (λ vs. Placed Unbox os (flat_operate program.procs (mode_of program) store world Unbox vs
-                  frames))
-                  e (as_served Unbox os (box_read program typed (fl (Give (Prim Unbox os))) places objects h filled
-                  cells
-                  waiting size rests words s count depth group locals Unbox os next fits rest fits.few u c others e
-                  refl))
+                  in_wrapper Unbox os (RunWrap u c ∷ others) e
+                  (box_read program typed (fl (Give (Prim Unbox os))) places objects h filled cells waiting size rests
+                  words s count depth group locals Unbox os next fits rest fits.few u c others e refl)
               by_values (RunLoc cell false ∷ []) e = by_content (slice_get store cell) refl
                 where
                   one : (o : Operand) × (os ≡ o ∷ []) × (value locals group o ≡ RunLoc cell false)
@@ -515,15 +546,11 @@ module _ (program : Program) (typed : TypesStand program.l) where
           writes_box os fits rest = by_values (values locals group os) refl
             where
               by_values : (vs : List (FlatValue program.meaning.Cast)) → values locals group os ≡ vs
-                  → Does (fl (Give (Prim BoxSet os)))
-                  (flat_operate program.procs (mode_of program) store world BoxSet vs frames) 0
-                  (At (give program.run s (Prim BoxSet os) next))
+                  → OnValues BoxSet os vs
               by_values (RunWrap u c ∷ others) e =
-                  subst (λ vs. Placed BoxSet os (flat_operate program.procs (mode_of program) store world BoxSet vs
-                  frames))
-                  e (as_served BoxSet os (box_written program typed (fl (Give (Prim BoxSet os))) places objects h filled
-                  cells waiting size rests words s count depth group locals BoxSet os next fits rest fits.few u c
-                  others e refl))
+                  in_wrapper BoxSet os (RunWrap u c ∷ others) e
+                  (box_written program typed (fl (Give (Prim BoxSet os))) places objects h filled cells waiting size
+                  rests words s count depth group locals BoxSet os next fits rest fits.few u c others e refl)
               by_values (RunLoc cell false ∷ v ∷ []) e = by_content (slice_get store cell) refl
                 where
                   two : (o p : Operand) × (os ≡ o ∷ p ∷ []) × (value locals group o ≡ RunLoc cell false)
@@ -658,22 +685,10 @@ module _ (program : Program) (typed : TypesStand program.l) where
           runs_operation (Prim PrintInt os) fits rest = runs_plain PrintInt os refl fits rest
           runs_operation (Prim Newline os) fits rest = runs_plain Newline os refl fits rest
           runs_operation (Prim ReadInt os) fits rest = runs_plain ReadInt os refl fits rest
-          runs_operation (Prim MakeVector os) fits rest =
-              as_served MakeVector os (vector_made program typed (fl (Give (Prim MakeVector os))) places objects h
-              filled
-              cells waiting size rests words s count depth group locals MakeVector os next fits rest fits.few refl)
-          runs_operation (Prim VectorRef os) fits rest =
-              as_served VectorRef os (vector_read program typed (fl (Give (Prim VectorRef os))) places objects h filled
-              cells waiting size rests words s count depth group locals VectorRef os next fits rest fits.few refl)
-          runs_operation (Prim VectorSet os) fits rest =
-              as_served VectorSet os (vector_written program typed (fl (Give (Prim VectorSet os))) places objects h
-              filled
-              cells waiting size rests words s count depth group locals VectorSet os next fits rest fits.few refl)
-          runs_operation (Prim VectorLength os) fits rest =
-              as_served VectorLength os (vector_measured program typed (fl (Give (Prim VectorLength os))) places objects
-              h
-              filled cells waiting size rests words s count depth group locals VectorLength os next fits rest fits.few
-              refl)
+          runs_operation (Prim MakeVector os) fits rest = runs_vectors MakeVector os OnMake fits rest
+          runs_operation (Prim VectorRef os) fits rest = runs_vectors VectorRef os OnRef fits rest
+          runs_operation (Prim VectorSet os) fits rest = runs_vectors VectorSet os OnSet fits rest
+          runs_operation (Prim VectorLength os) fits rest = runs_vectors VectorLength os OnLength fits rest
           runs_operation (Prim MakeBox os) fits rest = makes_box os fits rest
           runs_operation (Prim Unbox os) fits rest = reads_box os fits rest
           runs_operation (Prim BoxSet os) fits rest = writes_box os fits rest
@@ -745,39 +760,13 @@ module _ (program : Program) (typed : TypesStand program.l) where
           runs_body (Give op) fits rest = runs_operation op fits rest
           runs_body (Call f os) fits rest =
               let x = Entering (value locals group f) [] (all_plain (values locals group os)) in
-              let f' = st x frames store world in
-              let t = At (emit program.run s (Call f os) next) in
               inl (
                 refl,
                 inl (
-                  goes_as_it_is (fl (Call f os)) (On x frames store world) t (record {
-                    is = refl;
-                    related = record {
-                      places = places;
-                      objects = objects;
-                      filled = filled;
-                      cells = cells;
-                      world = refl;
-                      goes = record {
-                        operand = f;
-                        operands = os;
-                        locals = locals;
-                        group = group;
-                        runs = record {
-                          s = s;
-                          count = count;
-                          depth = depth;
-                          next = next;
-                          is = refl;
-                          fits = fits;
-                          rest = rest;
-                        };
-                        function = refl;
-                        arguments = plain_values (values locals group os);
-                        plain = plain_casts (values locals group os);
-                      };
-                    };
-                  }),
+                  goes_as_it_is (fl (Call f os)) (On x frames store world) (At (emit program.run s (Call f os) next))
+                      (goes_over f os locals group s count depth next fits rest (value locals group f) []
+                      (all_plain (values locals group os)) refl (plain_values (values locals group os))
+                      (plain_casts (values locals group os))),
                   (let a = plain_long (values locals group os) in let b = values_long locals group os in omega
                       (arith, a, b)),
                 ),
@@ -989,34 +978,9 @@ module _ (program : Program) (typed : TypesStand program.l) where
           argument v done p todo function arguments plain [] e =
               inl (
                 goes_as_it_is (entering v done (p ∷ todo)) (On (Entering v (p.value ∷ done) todo) frames store world)
-                    (At code) (record {
-                      is = refl;
-                      related = record {
-                        places = places;
-                        objects = objects;
-                        filled = filled;
-                        cells = cells;
-                        world = refl;
-                        goes = record {
-                          operand = fo;
-                          operands = os;
-                          locals = locals;
-                          group = group;
-                          runs = record {
-                            s = s;
-                            count = count;
-                            depth = depth;
-                            next = next;
-                            is = refl;
-                            fits = fits;
-                            rest = rest;
-                          };
-                          function = function;
-                          arguments = arguments;
-                          plain = plain;
-                        };
-                      };
-                    }),
+                    (At code)
+                    (goes_over fo os locals group s count depth next fits rest v (p.value ∷ done) todo function
+                    arguments plain),
                 omega arith,
               )
 

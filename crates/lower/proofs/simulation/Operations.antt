@@ -26,12 +26,11 @@ use Rattle.lower.specs.declared.numbering.Shape.{Shape}
 use Rattle.lower.specs.Numbering.{operand_word}
 use Rattle.lower.specs.Emit.{Then, ToCaller, Into, give, perform, found}
 use Rattle.lower.specs.CarriedValues.{CellsHeld}
-use Rattle.lower.specs.Relation.{Fits, Goes, entry_waiting}
+use Rattle.lower.specs.Relation.{Fits, entry_waiting}
 use Rattle.lower.proofs.heap.CarriedLater.{cells_later, cells_below}
 use Rattle.lower.proofs.simulation.RelationKept.{rest_later, callers_later}
 use Rattle.lower.proofs.words.Steps.{at, here, Goal, left_of}
 use Rattle.flat_ir.specs.Closed.{operand_bound}
-use Rattle.run_laws.specs.Runs.{Wrong}
 use Rattle.lower.proofs.words.Scene.{Scene}
 use Rattle.lower.proofs.words.Operands.{fetch_reads, value_carried, and_true}
 use Rattle.lower.proofs.words.EmitPrices.{fetch_price, computing_near, move_price, tuple_price, proj_price}
@@ -42,7 +41,7 @@ use Rattle.std.proofs.Common.{le_refl, length, ◌≤◌, ◌&&◌, suc}
 use Rattle.std.specs.Prelude.{nat_le}
 use Rattle.lower.proofs.words.Operations.{Touches, moves, makes_tuple, takes_part}
 use Rattle.lower.proofs.simulation.Way.{room_over, stays_in}
-use Rattle.lower.proofs.simulation.Way.{Settled, settled}
+use Rattle.lower.proofs.simulation.Way.{Settled, settled, wrong_over}
 use Rattle.lower.proofs.simulation.Way.{mode_of}
 use Rattle.lower.proofs.simulation.Way.{Program, R, Follows, FollowsFrom, next_state, Way, turn_goal, Allowed}
 use Rattle.lower.proofs.simulation.Way.{scene_for, kept_by, kept_here, at_start, asks_of, budget_of, due_of}
@@ -50,7 +49,7 @@ use Rattle.lower.proofs.simulation.Way.{waiting_dues, zero_once_ended, FollowsBy
 use Rattle.run_laws.specs.Runs.{Ending}
 use Rattle.grift_base.specs.declared.verdicts.Verdict.{Verdict}
 use Rattle.lower.proofs.simulation.Gives.{CarriedHere, RestHere, CallersHere, given, word_for, code_for, word_fits}
-use Rattle.lower.proofs.simulation.Gives.{Fitting, due_for}
+use Rattle.lower.proofs.simulation.Gives.{Fitting, due_for, GoesHere, living}
 use Rattle.lower.proofs.simulation.ShownAnswers.{answered}
 use Rattle.cast_modes.specs.ValueSteps.{CastFrame, casts_onto}
 
@@ -83,12 +82,8 @@ goes_wrong program f places objects h filled waiting size rests words code =
     here program.setting (Way program f (next_state program f NoNext) h.words (room_over program size waiting))
     (turn_goal program f (next_state program f NoNext) t) t (
       0,
-      inr (inl (record {
-        seen = record { output = refl; filling = (objects, filled) };
-        e = Wrong;
-        is = refl;
-        ends = tt;
-      })),
+      inr (inl (wrong_over program (next_state program f NoNext) t refl
+          (record { output = refl; filling = (objects, filled) }))),
       kept_here program f (next_state program f NoNext) 0 0 t (omega arith),
     )
 
@@ -105,83 +100,62 @@ wrong_by program f own places objects h filled waiting size rests words code =
       arrives program f f' h.words (room_over program size waiting) own (left_of program.setting t) t
           (left_of program.setting t) t (
             0,
-            inr (inl (record {
-              seen = record { output = refl; filling = (objects, filled) };
-              e = Wrong;
-              is = refl;
-              ends = tt;
-            })),
+            inr (inl (wrong_over program f' t refl (record { output = refl; filling = (objects, filled) }))),
             kept_here program f f' own 0 t (omega arith),
           ),
     )
 
 module _ (program : Program) (typed : TypesStand program.l) where
-  -- a value that is given or returned goes with the value of the numbered procedures
-  pub returned : (places : List ℕ) (objects : List Object) (h : Heap) (world : WorldState)
-      → Filled program.meaning program.setting program.l program.number objects h
-      → (store : FlatStore program.meaning.Cast) (frames : List (FlatFrame program.meaning.Cast))
-      → CellsHeld program.l program.setting.address program.procs program.meaning places objects h.memory places store
-      → (v : FlatValue program.meaning.Cast) (waiting : List LowWaiting) (size : ℕ) (rests : List Code) (words : Locals)
-      (code : Code) (due : ℕ)
-      → Goes program.setting program.l program.run program.procs program.answer program.meaning places objects
-      due (Return v) frames
-      (record { count = size; locals = words; code = code; rests = rests }) waiting
-      → Settled program (flat_state_at program.procs program.told (Return v) frames store world) due
-      (at world h waiting size rests words code)
-  returned places objects h world filled store (frame ∷ frames) cells v waiting size rests words code due goes =
-      inl (record {
-        is = refl;
-        related = record {
-          places = places;
-          objects = objects;
-          filled = filled;
-          cells = cells;
-          world = refl;
-          goes = goes;
-        };
-      })
-  returned places objects h world filled store [] cells v waiting size rests words code due
-      (inl gave) = absurd gave.rest
-  returned places objects h world filled store [] cells v waiting size rests words code due (inr (gives, le)) =
-      by_callers waiting gives.callers
-    where
-      by_callers : (ws : List LowWaiting) → CallersHere program places objects ws []
-          → Settled program (flat_state_at program.procs program.told (Return v) [] store world) due
-          (at world h ws size rests words code)
-      by_callers [] c = absurd c
-      by_callers (w ∷ ws) (inl e) =
-          subst (λ k. Settled program (flat_state_at program.procs program.told (Return v) [] store world) due
-          (at world h (w ∷ ws) size rests words k)) (sym gives.code)
-          (subst (λ us. Settled program (flat_state_at program.procs program.told (Return v) [] store world) due
-          (at world h us size rests words (ReturnCode gives.source))) (sym (both w ws e.2 e.1))
-          (answered program typed places objects h world filled store v size rests words gives.source gives.w gives.is
-          gives.carried due))
-        where
-          both : (w : LowWaiting) (ws : List LowWaiting) → w ≡ entry_waiting program.answer → ws ≡ []
-              → (w ∷ ws) ≡ entry_waiting program.answer ∷ []
-          both w ws p q = ap₂ (λ x y. x ∷ y) p q
-      by_callers (w ∷ ws) (inr (inl r)) = absurd r.4
-      by_callers (w ∷ ws) (inr (inr r)) = absurd (let z : ⊥ = none r.0 r.1 r.2 r.3 in z)
-        where
-          none : (cast : program.meaning.Cast) (casts : List program.meaning.Cast)
-              (base : List (FlatFrame program.meaning.Cast)) → [] ≡ CastFrame cast ∷ casts_onto casts base → ⊥
-          none cast casts base e = cc
+  module _ (places : List ℕ) (objects : List Object) (h : Heap) (world : WorldState)
+      (filled : Filled program.meaning program.setting program.l program.number objects h)
+      (store : FlatStore program.meaning.Cast) (frames : List (FlatFrame program.meaning.Cast))
+      (cells : CellsHeld program.l program.setting.address program.procs program.meaning places objects h.memory places
+      store)
+      (v : FlatValue program.meaning.Cast) (waiting : List LowWaiting) (size : ℕ) (rests : List Code) (words : Locals)
+      (code : Code) (due : ℕ) where
+    abbrev returning : List (FlatFrame program.meaning.Cast) → FlatState program.meaning.Cast
+    returning frames = flat_state_at program.procs program.told (Return v) frames store world
 
-  pub settle : (places : List ℕ) (objects : List Object) (h : Heap) (world : WorldState)
-      → Filled program.meaning program.setting program.l program.number objects h
-      → (store : FlatStore program.meaning.Cast) (frames : List (FlatFrame program.meaning.Cast))
-      → CellsHeld program.l program.setting.address program.procs program.meaning places objects h.memory places store
-      → (v : FlatValue program.meaning.Cast) (waiting : List LowWaiting) (size : ℕ) (rests : List Code) (words : Locals)
-      (code : Code) (due : ℕ)
-      → Goes program.setting program.l program.run program.procs program.answer program.meaning places objects
-      due (Return v) frames
-      (record { count = size; locals = words; code = code; rests = rests }) waiting
-      → R program (flat_state_at program.procs program.told (Return v) frames store world) due
-      (at world h waiting size rests words code)
-  settle places objects h world filled store frames cells v waiting size rests words code due goes =
-      settled program (flat_state_at program.procs program.told (Return v) frames store world) due
-      (at world h waiting size rests words code)
-      (returned places objects h world filled store frames cells v waiting size rests words code due goes)
+    -- a value that is given or returned goes with the value of the numbered procedures
+    pub returned : GoesHere program places objects due (Return v) frames waiting size rests words code
+        → Settled program (returning frames) due (at world h waiting size rests words code)
+    returned goes = by_frames frames goes
+      where
+        by_frames : (fs : List (FlatFrame program.meaning.Cast))
+            → GoesHere program places objects due (Return v) fs waiting size rests words code
+            → Settled program (returning fs) due (at world h waiting size rests words code)
+        by_frames (frame ∷ fs) goes =
+            inl (living program places objects h (returning (frame ∷ fs)) refl filled cells waiting size rests words
+            code
+            due goes)
+        by_frames [] (inl gave) = absurd gave.rest
+        by_frames [] (inr (gives, le)) = by_callers waiting gives.callers
+          where
+            by_callers : (ws : List LowWaiting) → CallersHere program places objects ws []
+                → Settled program (returning []) due (at world h ws size rests words code)
+            by_callers [] c = absurd c
+            by_callers (w ∷ ws) (inl e) =
+                subst (λ k. Settled program (returning []) due (at world h (w ∷ ws) size rests words k))
+                (sym gives.code)
+                (subst (λ us. Settled program (returning []) due
+                (at world h us size rests words (ReturnCode gives.source))) (sym (both w ws e.2 e.1))
+                (answered program typed places objects h world filled store v size rests words gives.source gives.w
+                gives.is gives.carried due))
+              where
+                both : (w : LowWaiting) (ws : List LowWaiting) → w ≡ entry_waiting program.answer → ws ≡ []
+                    → (w ∷ ws) ≡ entry_waiting program.answer ∷ []
+                both w ws p q = ap₂ (λ x y. x ∷ y) p q
+            by_callers (w ∷ ws) (inr (inl r)) = absurd r.4
+            by_callers (w ∷ ws) (inr (inr r)) = absurd (let z : ⊥ = none r.0 r.1 r.2 r.3 in z)
+              where
+                none : (cast : program.meaning.Cast) (casts : List program.meaning.Cast)
+                    (base : List (FlatFrame program.meaning.Cast)) → [] ≡ CastFrame cast ∷ casts_onto casts base → ⊥
+                none cast casts base e = cc
+
+    pub settle : GoesHere program places objects due (Return v) frames waiting size rests words code
+        → R program (returning frames) due (at world h waiting size rests words code)
+    settle goes =
+        settled program (returning frames) due (at world h waiting size rests words code) (returned goes)
 
   -- a turn in which an operation of a body gives a value
   module _ (f : FlatState program.meaning.Cast) (places : List ℕ) (objects : List Object) (h : Heap)

@@ -29,7 +29,6 @@ use Rattle.flat_ir.specs.Machine.{FlatValue, FlatState, FlatAfter, Group, Locals
 use Rattle.flat_ir.specs.Machine.{flat_arity, flat_entered, value, values, flat_operate}
 use Rattle.coercion_norm.specs.Held.{TypesStand}
 use Rattle.coercion_norm.specs.Objects.{Object}
-use Rattle.rt_cast.specs.Frames.{stack_room}
 use Rattle.rt_cast.specs.States.{Heap}
 use Rattle.lower.specs.Storage.{Filled}
 use Rattle.lower.specs.declared.numbering.Shape.{Shape}
@@ -59,7 +58,7 @@ use Rattle.lower.specs.SimulationServices.{product_price}
 use Rattle.lower.proofs.words.Services.{heap_same}
 use Rattle.lower.proofs.words.Operators.{multiplies, divides, leaves, traps}
 use Rattle.lower.proofs.simulation.Way.{room_over, stays_in, serves_in}
-use Rattle.lower.proofs.simulation.Way.{Seen, Stopping}
+use Rattle.lower.proofs.simulation.Way.{Seen, Stopping, stopped_over}
 use Rattle.lower.proofs.words.Arithmetic.{le_turned}
 use Rattle.lower.proofs.words.Operations.{Touches}
 use Rattle.lower.proofs.words.Operators.{adds, subtracts, less, greater, at_most, at_least, equal, negates, prints_int}
@@ -439,18 +438,7 @@ module _ (program : Program) (typed : TypesStand program.l)
       (here program.setting (Way program f no_number h.words (room_over program size waiting)) (turn_goal program f
       no_number (start_of ReadInt [])) _ (
         0,
-        inr (inl (record {
-          seen = record { output = refl; filling = (objects, filled) };
-          e = no_number_ending;
-          is = refl;
-          ends = record {
-            steps = 0;
-            price = 0;
-            small = omega arith;
-            cheap = omega arith;
-            reach = (traps_input _ _, le_refl h.words, le_refl _);
-          };
-        })),
+        inr (inl (stopped_over program no_number (TrapVerdict Input) _ refl (traps_input _ _))),
         record {
           asked = omega arith;
           paid =
@@ -522,7 +510,7 @@ module _ (program : Program) (typed : TypesStand program.l)
       by_all Mul (o ∷ p ∷ []) (On (Return v) f.frames f.store f.world)
       (multiplies (product_scene Mul (o ∷ p ∷ []) (valued v)) f.world h (as_before (valued v)) objects filled waiting
       size (stays_in program size waiting) rests s
-      count group depth locals wide words fits.knows program.products o p a b ea eb bound d k (omega arith)
+      count group depth locals wide words fits.knows program.serves.products o p a b ea eb bound d k (omega arith)
       (serves_in program size waiting) less_than_size
       (λ w new c e touches. gives_product Mul o p big v w new c e touches))
 
@@ -553,31 +541,15 @@ module _ (program : Program) (typed : TypesStand program.l)
       (code_price program.setting.procs size k + codes_price program.setting.procs size rests) t
   traps_here op o p big new t r =
       let s0 = at f.world h (waiting_for d size rests new k ∷ waiting) size rests new k in
-      let dear = prim_price program.setting.procs size s six program.run d op (o ∷ p ∷ []) (omega arith) k in
-      let quiet = quiet_seen s0 t r.quiet refl filled in (
+      let dear = prim_price program.setting.procs size s six program.run d op (o ∷ p ∷ []) (omega arith) k in (
         0,
-        inr (inl (record {
-          seen = quiet;
-          e = trap_ending;
-          is = refl;
-          ends = record {
-            steps = 0;
-            price = 0;
-            small = omega arith;
-            cheap = omega arith;
-            reach = (
-              record {
-                now = quiet;
-                last = r.last;
-                stops = r.stops;
-                cheap = (stops_cheaply program.setting t r.last (TrapVerdict ZeroDivisor) r.stops).0;
-                seen = quiet_seen s0 r.last r.stays refl filled;
-              },
-              le_refl t.words,
-              le_refl (stack_room t),
-            );
-          };
-        })),
+        inr (inl (stopped_over program trapped (TrapVerdict ZeroDivisor) t refl (record {
+          now = quiet_seen s0 t r.quiet refl filled;
+          last = r.last;
+          stops = r.stops;
+          cheap = (stops_cheaply program.setting t r.last (TrapVerdict ZeroDivisor) r.stops).0;
+          seen = quiet_seen s0 r.last r.stays refl filled;
+        }))),
         record {
           asked = let z = r.quiet.words in omega (arith, z);
           paid =
@@ -611,14 +583,14 @@ module _ (program : Program) (typed : TypesStand program.l)
           by_all Quot (o ∷ p ∷ []) (TrapOf ZeroDivisor f.world)
           (traps (product_scene Quot (o ∷ p ∷ []) trapped) f.world h (as_before trapped) objects filled waiting size
           (stays_in program size waiting) rests s count group depth locals wide words
-          fits.knows program.products o p a b ea eb bound d k (omega arith) (serves_in program size waiting) 0
+          fits.knows program.serves.products o p a b ea eb bound d k (omega arith) (serves_in program size waiting) 0
           (omega arith) e (trap_floor Quot o p big)
           (λ new t r. traps_here Quot o p big new t r))
       by_divisor false e =
           by_all Quot (o ∷ p ∷ []) (On (Return v) f.frames f.store f.world)
           (divides (product_scene Quot (o ∷ p ∷ []) (valued v)) f.world h (as_before (valued v)) objects filled waiting
           size (stays_in program size waiting) rests
-          s count group depth locals wide words fits.knows program.products o p a b ea eb bound d k (omega arith)
+          s count group depth locals wide words fits.knows program.serves.products o p a b ea eb bound d k (omega arith)
           (serves_in program size waiting) e less_than_size
           (λ w new c q touches. gives_product Quot o p big v w new c q touches))
 
@@ -638,14 +610,14 @@ module _ (program : Program) (typed : TypesStand program.l)
           by_all Rem (o ∷ p ∷ []) (TrapOf ZeroDivisor f.world)
           (traps (product_scene Rem (o ∷ p ∷ []) trapped) f.world h (as_before trapped) objects filled waiting size
           (stays_in program size waiting) rests s count group depth locals wide words
-          fits.knows program.products o p a b ea eb bound d k (omega arith) (serves_in program size waiting) 1
+          fits.knows program.serves.products o p a b ea eb bound d k (omega arith) (serves_in program size waiting) 1
           (omega arith) e (trap_floor Rem o p big)
           (λ new t r. traps_here Rem o p big new t r))
       by_divisor false e =
           by_all Rem (o ∷ p ∷ []) (On (Return v) f.frames f.store f.world)
           (leaves (product_scene Rem (o ∷ p ∷ []) (valued v)) f.world h (as_before (valued v)) objects filled waiting
           size (stays_in program size waiting) rests s count group
-          depth locals wide words fits.knows program.products o p a b ea eb bound d k (omega arith)
+          depth locals wide words fits.knows program.serves.products o p a b ea eb bound d k (omega arith)
           (serves_in program size waiting) e less_than_size
           (λ w new c q touches. gives_product Rem o p big v w new c q touches))
 

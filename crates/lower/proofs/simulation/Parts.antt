@@ -130,7 +130,7 @@ module _ (program : Program) (typed : TypesStand program.l)
       → CarriedHere program places objects (value locals group o) w
       → Answers program.meaning program.setting program.l program.procs program.casts program.measured
       (at f.world h waits n rr now code) part_leaves places objects f.frames x (cost_of program f) program.number 0
-      (entered (at f.world h waits n rr now code) program.parts.proc (w ∷ part_word ∷ which ∷ label ∷ []))
+      (entered (at f.world h waits n rr now code) program.serves.parts.proc (w ∷ part_word ∷ which ∷ label ∷ []))
 
   silent : (x : FlatAfter program.meaning.Cast) (part_word which label : ℕ) → Lawful x part_word which label
       → (next_state program f x).world.output ≡ f.world.output
@@ -141,7 +141,7 @@ module _ (program : Program) (typed : TypesStand program.l)
       (Returns program.meaning program.setting program.l program.procs program.casts program.measured t0 part_leaves
       places objects f.frames)
       z.0) f refl x (cost_of program f) 0 program.number 0
-      (entered t0 program.parts.proc (carried_now.0 ∷ part_word ∷ which ∷ label ∷ [])) z.1
+      (entered t0 program.serves.parts.proc (carried_now.0 ∷ part_word ∷ which ∷ label ∷ [])) z.1
 
   -- the call of the procedure, whatever stands behind it
   calls_part : (x : FlatAfter program.meaning.Cast) (part_word which label : ℕ) → Lawful x part_word which label
@@ -158,7 +158,7 @@ module _ (program : Program) (typed : TypesStand program.l)
       called program typed f places objects h filled cells waiting size rests words s count depth group next rest
       less falls behind rr fall new touches part_leaves have 194 (omega (arith, one)) (omega (arith, one)) x 0
       program.run.project args (w ∷ part_word ∷ which ∷ label ∷ [])
-      program.parts.proc 4 are program.parts.stands refl z.0 z.1
+      program.serves.parts.proc 4 are program.serves.parts.stands refl z.0 z.1
 
   -- the turn is served, where its code costs no more
   part_is_served : (x : FlatAfter program.meaning.Cast) (code : Code) → is_last code ≡ false
@@ -195,9 +195,9 @@ module _ (program : Program) (typed : TypesStand program.l)
     dyn_law waits n rr now code w carried =
         subst (λ cost. Answers program.meaning program.setting program.l program.procs program.casts
         program.measured (at f.world h waits n rr now code) part_leaves places objects f.frames dyn_after cost
-        program.number 0 (entered (at f.world h waits n rr now code) program.parts.proc
+        program.number 0 (entered (at f.world h waits n rr now code) program.serves.parts.proc
         (w ∷ cast_unsigned w64 i % 2 ^ 64 ∷ 0 ∷ label ∷ []))) cost_is
-        (program.parts.gives_dyn (at f.world h waits n rr now code) program.number places objects f.store
+        (program.serves.parts.gives_dyn (at f.world h waits n rr now code) program.number places objects f.store
         (record { filled = filled; cells = cells }) f.frames (value locals group o) w carried i label small in_range)
 
     pub dyn_part_served : Served program typed f dyn_after 0 0
@@ -243,15 +243,15 @@ module _ (program : Program) (typed : TypesStand program.l)
     part_law waits n rr now code w carried =
         subst (λ cost. Answers program.meaning program.setting program.l program.procs program.casts
         program.measured (at f.world h waits n rr now code) part_leaves places objects f.frames part_after cost
-        program.number 0 (entered (at f.world h waits n rr now code) program.parts.proc
+        program.number 0 (entered (at f.world h waits n rr now code) program.serves.parts.proc
         (w ∷ cast_unsigned w64 i % 2 ^ 64 ∷ 1 ∷ 0 ∷ []))) cost_is
         (subst (λ v. Answers program.meaning program.setting program.l program.procs program.casts
         program.measured (at f.world h waits n rr now code) part_leaves places objects f.frames
         (flat_proj program.procs (mode_of program) f.store f.world v i f.frames)
         (act_cost program.procs (mode_of program) (prices_of program)) program.number 0
-        (entered (at f.world h waits n rr now code) program.parts.proc
+        (entered (at f.world h waits n rr now code) program.serves.parts.proc
         (w ∷ cast_unsigned w64 i % 2 ^ 64 ∷ 1 ∷ 0 ∷ []))) (sym wrapped)
-        (program.parts.gives (at f.world h waits n rr now code) program.number places objects f.store
+        (program.serves.parts.gives (at f.world h waits n rr now code) program.number places objects f.store
         (record { filled = filled; cells = cells }) f.frames u cast w
         (subst (λ v. CarriedHere program places objects v w) wrapped carried) i 0))
 

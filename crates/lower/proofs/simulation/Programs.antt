@@ -78,13 +78,7 @@ module _ (meaning : Meaning) (laws : MeaningLaws meaning) (setting : Setting) (l
     addresses = is.addresses;
     closed = both.1;
     narrow = narrow;
-    products = does.products;
-    casting = does.casting;
-    words = does.words;
-    made_in_place = does.made_in_place;
-    parts = does.parts;
-    cells = does.cells;
-    calling = does.calling;
+    serves = does;
   }
 
   by_layout : TypesStand l → (input : List ℕ) → NeverWrong (flat_run_in procs entry (meaning.mode l.types casts) told

@@ -9,7 +9,7 @@ use Rattle.low_ir.specs.Procedures.{Code, Done}
 use Rattle.low_ir.specs.Steps.{Locals, set_local}
 use Rattle.low_ir.specs.Run.{Setting, Waiting as LowWaiting}
 use Rattle.cast_modes.specs.ValueSteps.{CastFrame, ProjFrame, PrimFrame, EnterFrame, OwnFrame}
-use Rattle.flat_ir.specs.Bodies.{Proc}
+use Rattle.flat_ir.specs.Bodies.{Body, Proc}
 use Rattle.flat_ir.specs.Machine.{FlatValue, FlatFrame, Group, Locals as FlatLocals, Waiting}
 use Rattle.flat_ir.specs.Machine.{set_local as set_flat}
 use Rattle.coercion_norm.specs.Objects.{Object}
@@ -18,7 +18,7 @@ use Rattle.lower.specs.declared.numbering.Shape.{Shape}
 use Rattle.lower.specs.declared.served.Served.{Served}
 use Rattle.lower.specs.Numbering.{own_word, local_word}
 use Rattle.lower.specs.Emit.{Then, ToCaller, Into}
-use Rattle.lower.specs.Relation.{Carried, OwnGroup, Knows, Rest, Callers}
+use Rattle.lower.specs.Relation.{Carried, OwnGroup, Knows, Waits, Rest, Callers}
 use Rattle.std.specs.Prelude.{slice_get}
 use Rattle.lower.proofs.heap.CarriedLater.{group_grown, grown, all_grown}
 use Rattle.lower.specs.Meanings.{Meaning, MeaningLaws}
@@ -87,6 +87,25 @@ pub same_then : (s : Shape) (depth : ℕ) (a b c : Locals) → SameNamed s depth
     → SameNamed s depth a c
 same_then s depth a b c p q i named = q i named ∙ p i named
 
+-- a body waits as before, below another level, where the words that it has know its names
+pub waits_so : (setting : Setting) (l : Layout) (run : Served) (procs : List Proc) (answer : TypeRow)
+    (meaning : Meaning) (places bigger : List ℕ) (objects later : List Object) {s : Shape} {count size : ℕ}
+    {group : Group meaning.Cast} {depth slot : ℕ} {rest : Body} {locals : FlatLocals meaning.Cast}
+    {other : Group meaning.Cast} {d : ℕ} {words : Locals} (level : ℕ) (new : Locals) → slot ≤ level
+    → Knows setting l run procs answer meaning bigger later s count group slot locals new
+    → Waits setting l run procs answer meaning places objects s count size group depth slot rest locals other d words
+    → Waits setting l run procs answer meaning bigger later s count size group level slot rest locals other d new
+waits_so setting l run procs answer meaning places bigger objects later level new deep knows w = record {
+  params = w.params;
+  few = w.few;
+  deep = deep;
+  word = w.word;
+  same = w.same;
+  bound = w.bound;
+  room = w.room;
+  knows = knows;
+}
+
 module _ (setting : Setting) (l : Layout) (run : Served) (procs : List Proc) (answer : TypeRow)
     (meaning : Meaning) (laws : MeaningLaws meaning) (places : List ℕ) where
   module _ (objects : List Object) where
@@ -120,16 +139,8 @@ module _ (setting : Setting) (l : Layout) (run : Served) (procs : List Proc) (an
     rest_same P s count size group depth (OwnFrame (Waiting slot rest locals other) ∷ frames) (Into d k) rests words new
         same r =
         let below : SameNamed s slot words new = λ i n. same i (fewer_named s slot depth r.0.deep i n) in (
-          record {
-            params = r.0.params;
-            few = r.0.few;
-            deep = r.0.deep;
-            word = r.0.word;
-            same = r.0.same;
-            bound = r.0.bound;
-            room = r.0.room;
-            knows = knows_same s count group slot locals words new below r.0.knows;
-          },
+          waits_so setting l run procs answer meaning places places objects objects depth new r.0.deep
+              (knows_same s count group slot locals words new below r.0.knows) r.0,
           r.1,
           r.2,
           r.3,
@@ -150,16 +161,8 @@ module _ (setting : Setting) (l : Layout) (run : Served) (procs : List Proc) (an
     rest_deeper P s count size group depth more [] (Into d k) rests words le r = r
     rest_deeper P s count size group depth more (OwnFrame (Waiting slot rest locals other) ∷ frames) (Into d k) rests
         words le r = (
-          record {
-            params = r.0.params;
-            few = r.0.few;
-            deep = let z = r.0.deep in omega (arith, z, le);
-            word = r.0.word;
-            same = r.0.same;
-            bound = r.0.bound;
-            room = r.0.room;
-            knows = r.0.knows;
-          },
+          waits_so setting l run procs answer meaning places places objects objects more words
+              (let z = r.0.deep in omega (arith, z, le)) r.0.knows r.0,
           r.1,
           r.2,
           r.3,
@@ -179,16 +182,7 @@ module _ (setting : Setting) (l : Layout) (run : Served) (procs : List Proc) (an
         → RestHere P s count size group depth frames (Into d Done) (k ∷ rests) words
     rest_branch P s count size group depth [] d k rests words r = r
     rest_branch P s count size group depth (OwnFrame (Waiting slot rest locals other) ∷ frames) d k rests words r = (
-      record {
-        params = r.0.params;
-        few = r.0.few;
-        deep = r.0.deep;
-        word = r.0.word;
-        same = r.0.same;
-        bound = r.0.bound;
-        room = r.0.room;
-        knows = r.0.knows;
-      },
+      r.0,
       r.1,
       r.2,
       suc r.3,
@@ -278,16 +272,8 @@ module _ (setting : Setting) (l : Layout) (run : Served) (procs : List Proc) (an
   rest_grown P Q f s count size group depth [] (Into d k) rests words r = r
   rest_grown P Q f s count size group depth (OwnFrame (Waiting slot rest locals other) ∷ frames) (Into d k) rests
       words r = (
-        record {
-          params = r.0.params;
-          few = r.0.few;
-          deep = r.0.deep;
-          word = r.0.word;
-          same = r.0.same;
-          bound = r.0.bound;
-          room = r.0.room;
-          knows = knows_grown s count group slot locals words r.0.knows;
-        },
+        waits_so setting l run procs answer meaning places bigger objects (objects ++ more) depth words r.0.deep
+            (knows_grown s count group slot locals words r.0.knows) r.0,
         r.1,
         r.2,
         r.3,

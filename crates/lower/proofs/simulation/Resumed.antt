@@ -183,8 +183,8 @@ module _ (program : Program) (typed : TypesStand program.l) (store : FlatStore p
           × Answers program.meaning program.setting program.l program.procs program.casts program.measured c
           resumed_leaves places objects base after (cost_of program f)
           program.number wraps (record c { active = with_local u.answer w u.rest })
-      law = program.calling.goes_on c program.number places objects store (record { filled = filled; cells = cells })
-          base u cast results resumes v w carried
+      law = program.serves.calling.goes_on c program.number places objects store
+          (record { filled = filled; cells = cells }) base u cast results resumes v w carried
 
       step : (N program).step (at world h (u ∷ us) size rests words (ReturnCode source))
           ≡ Go (record c { active = with_local u.answer w u.rest })

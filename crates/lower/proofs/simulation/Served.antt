@@ -27,8 +27,8 @@ use Rattle.lower.proofs.words.Stops.{stops_cheaply}
 use Rattle.low_ir.specs.Prices.{CostsAtMost}
 use Rattle.machine_words.specs.Halts.{ending_of}
 use Rattle.flat_ir.specs.FlatTally.{Cost}
-use Rattle.std.proofs.Common.{le_refl}
 use Rattle.lower.proofs.simulation.Way.{Program, after_wraps, mode_of, N, Seen, Over, Settled}
+use Rattle.lower.proofs.simulation.Way.{wrong_over, stopped_over}
 use Rattle.lower.proofs.simulation.Way.{next_state, turn_of, size_of, over_price, zero_once_ended, dues, asks_of}
 use Rattle.lower.proofs.simulation.Way.{budget_of, cost_of, unless_ended, focus_weight, frames_weight}
 
@@ -221,12 +221,8 @@ module _ (program : Program) where
         → f'.world.output ≡ s.world.output → (t : LowState) → OnWayHere t 0 n n t → Ended room f' n' t
     over n n' same f' is out t here =
         subst (λ m. Ended room f' m t) (sym same) (
-          record {
-            seen = record { output = ap (λ w. w.output) here.same ∙ sym out; filling = passing t 0 n t here };
-            e = Wrong;
-            is = is;
-            ends = tt;
-          },
+          wrong_over (after_wraps program n) f' t is
+              (record { output = ap (λ w. w.output) here.same ∙ sym out; filling = passing t 0 n t here }),
           omega arith,
           in_room t here.room,
         )
@@ -237,28 +233,13 @@ module _ (program : Program) where
         → InRoom u → StopsHere n (EndsWith v) u
         → Ended room f' n u
     ended n f' v is out u fits q = (
-      record {
-        seen = seen u (ap (λ w. w.output) q.same) q.here;
-        e = EndsWith v;
-        is = is;
-        ends = record {
-          steps = 0;
-          price = 0;
-          small = omega arith;
-          cheap = omega arith;
-          reach = (
-            record {
-              now = seen u (ap (λ w. w.output) q.same) q.here;
-              last = q.last;
-              stops = q.stops;
-              cheap = (stops_cheaply program.setting u q.last v q.stops).0;
-              seen = seen q.last (ap (λ w. w.output) q.same_after) q.after;
-            },
-            le_refl u.words,
-            le_refl (stack_room u),
-          );
-        };
-      },
+      stopped_over (after_wraps program n) f' v u is (record {
+        now = seen u (ap (λ w. w.output) q.same) q.here;
+        last = q.last;
+        stops = q.stops;
+        cheap = (stops_cheaply program.setting u q.last v q.stops).0;
+        seen = seen q.last (ap (λ w. w.output) q.same_after) q.after;
+      }),
       omega arith,
       in_room u fits,
     )

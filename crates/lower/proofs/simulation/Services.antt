@@ -94,27 +94,26 @@ module _ (program : Program) (typed : TypesStand program.l) (f : FlatState progr
       (p : ℕ) × (p + floor ≤ left_of program.setting t)
       × SomeBy program.setting (OnTurnAt w t) (LandingAt have before x w t) 0 (p + budget_of program f) t
 
-  -- the same as a goal of the code before it, where such a call or what code makes in place is come to
-  abbrev pub calling_goal : ℕ → ℕ → ℕ → FlatAfter program.meaning.Cast → ℕ → ℕ → ℕ → Goal
-  calling_goal floor have before x w base room = record {
+  -- a goal of code before it, told what is come to by so much
+  abbrev serving_goal : (ℕ → LowState → Type 0) → ℕ → Goal
+  serving_goal By_so floor = record {
     extra = 0;
     floor = floor;
-    holds = λ left t. (p : ℕ) × (p + floor ≤ left)
-        × By program.setting (OnTurn w base room) (Landing room have before (next_state program f x) w base) 0
-        (p + budget_of program f) t;
+    holds = λ left t. (p : ℕ) × (p + floor ≤ left) × By_so (p + budget_of program f) t;
     least = λ left t q. let le = q.1 in omega (arith, le);
   }
 
-  -- with a step at least
+  -- such a call, or what code makes in place
+  abbrev pub calling_goal : ℕ → ℕ → ℕ → FlatAfter program.meaning.Cast → ℕ → ℕ → ℕ → Goal
+  calling_goal floor have before x w base room =
+      serving_goal (By program.setting (OnTurn w base room) (Landing room have before (next_state program f x) w base)
+      0) floor
+
+  -- the same with a step at least
   abbrev pub starting_goal : ℕ → ℕ → ℕ → FlatAfter program.meaning.Cast → ℕ → ℕ → ℕ → Goal
-  starting_goal floor have before x w base room = record {
-    extra = 0;
-    floor = floor;
-    holds = λ left t. (p : ℕ) × (p + floor ≤ left)
-        × SomeBy program.setting (OnTurn w base room) (Landing room have before (next_state program f x) w base) 0
-        (p + budget_of program f) t;
-    least = λ left t q. let le = q.1 in omega (arith, le);
-  }
+  starting_goal floor have before x w base room =
+      serving_goal (SomeBy program.setting (OnTurn w base room)
+      (Landing room have before (next_state program f x) w base) 0) floor
 
   -- from code that comes to a call, by some step at least
   pub some_calls : (floor have before : ℕ) (x : FlatAfter program.meaning.Cast) (w : ℕ) (t : LowState)

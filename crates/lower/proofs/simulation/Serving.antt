@@ -19,6 +19,7 @@ use Rattle.flat_ir.specs.Machine.{FlatValue, FlatAfter, FlatState, Group, values
 use Rattle.flat_ir.specs.Machine.{Locals as FlatLocals}
 use Rattle.lower.specs.declared.numbering.Shape.{Shape}
 use Rattle.lower.specs.Meanings.{IsWrapper}
+use Rattle.rt_cast.specs.Words.{kind_mask}
 use Rattle.rt_cast.specs.States.{Heap}
 use Rattle.lower.specs.Storage.{Filled}
 use Rattle.lower.specs.Numbering.{operand_word, test_word}
@@ -112,7 +113,7 @@ module _ (program : Program) (typed : TypesStand program.l) (f : FlatState progr
       (subst (λ n. may_load program.setting.top n ≡ true) none there.may)
       (subst (λ n. load_bytes 8 h.memory n ≡ head) none there.is) (let z = there.end in omega arith)
       (omega (arith, room))
-      (computes program.setting P Q calm head 255 wrapper.kind (word_here t head now) refl
+      (computes program.setting P Q calm head kind_mask wrapper.kind (word_here t head now) refl
       (kind_read wrapper.kind wrapper.count low) (omega (arith, room))
       (if_false program.setting P Q calm wrapper.kind (kind % 2 ^ 64) (word_here t wrapper.kind first) refl different
       (go (set_local t wrapper.kind first)

@@ -37,6 +37,7 @@ use Rattle.coercion_norm.specs.Coercions.{rows_of}
 use Rattle.coercion_norm.specs.Held.{TypesStand, There, HoldsType, type_object, rows_in, height_in}
 use Rattle.coercion_norm.specs.ObjectsOfRows.{header, type_kind}
 use Rattle.lower.specs.Lowered.{show_kept, open_object, open_small}
+use Rattle.rt_cast.specs.Words.{kind_mask}
 use Rattle.rt_cast.specs.DynWords.{small_dyn, IsDynBy}
 use Rattle.rt_cast.proofs.Public.{SmallIs, small_is, tag_read, no_tag, untagged, eq_false}
 use Rattle.lower.proofs.heap.Objects.{dyn_header}
@@ -262,7 +263,7 @@ module _ (program : Program) (typed : TypesStand program.l) (places : List ℕ) 
       shows_kept row solid v (cast ∷ casts) w c e words kind is
   shows_kept row solid v casts w c e words kind is = true_false e
 
-  kind_told : (k height n : ℕ) → k < 256 → compute And (k + height * 65536 + n * 4294967296) 255 ≡ k
+  kind_told : (k height n : ℕ) → k < 256 → compute And (k + height * 65536 + n * 4294967296) kind_mask ≡ k
   kind_told k height n lt = and_mask (k + height * 65536 + n * 4294967296) 8 ∙ omega arith
 
   few_kinds : (row : TypeRow) → type_kind row < 256
@@ -354,7 +355,7 @@ module _ (program : Program) (typed : TypesStand program.l) (places : List ℕ) 
           (subst (λ n. may_load program.setting.top n ≡ true) none head_there.may)
           (subst (λ n. load_bytes 8 h.memory n ≡ head) none head_there.is) (let z = head_there.end in omega arith)
           (omega arith)
-          (computes program.setting P Q (calm a) head 255 (type_kind row) (word_here 1 head one) refl
+          (computes program.setting P Q (calm a) head kind_mask (type_kind row) (word_here 1 head one) refl
           (kind_told (type_kind row) (height_in program.l kept) (length (parts_of row)) (few_kinds row)) (omega arith)
           (loads program.setting P Q (calm a) w c.0 same inner_there.may inner_there.is
           (let z = inner_there.end in omega arith) (omega arith)

@@ -1,23 +1,26 @@
 -- The state in which a lowered program enters its first procedure goes with that of the numbered procedures.
 use Rattle.std.proofs.Common.{◌≡◌, inl, ℕ, ◌+◌, ◌≤◌, List, [], ◌∷◌, Some, true, refl, arith, eqb-true}
-use Rattle.std.proofs.Common.{le_refl, slice_get}
-use Rattle.std.specs.Prelude.{◌==◌}
+use Rattle.std.proofs.Common.{slice_get, suc}
+use Rattle.std.specs.Prelude.{◌==◌, ◌&&◌, nat_le}
+use Rattle.run_laws.specs.Machines.{Go}
 use Rattle.machine_words.specs.Memory.{Memory}
 use Rattle.low_ir.specs.Steps.{no_locals}
-use Rattle.low_ir.specs.Run.{LowState, bind}
+use Rattle.low_ir.specs.Run.{LowState, bind, low_start}
 use Rattle.cast_modes.specs.RunValues.{RunUnit}
 use Rattle.cast_modes.specs.ValueSteps.{Own}
 use Rattle.flat_ir.specs.Bodies.{Proc}
+use Rattle.flat_ir.specs.Closed.{takes_nothing}
 use Rattle.flat_ir.specs.Levels.{levels}
 use Rattle.flat_ir.specs.Machine.{FlatState, Inside, first_world, flat_state_at, new_group}
 use Rattle.rt_cast.specs.Objects.{Holds}
 use Rattle.rt_cast.specs.States.{Heap}
-use Rattle.lower.specs.Emit.{ToCaller}
-use Rattle.lower.specs.Lowered.{low_proc, shape_of}
+use Rattle.lower.specs.Lowered.{low_proc, entry_proc}
 use Rattle.lower.specs.Relation.{entry_waiting}
 use Rattle.lower.specs.Storage.{Filled}
-use Rattle.lower.proofs.simulation.Groups.{proc_is_closed}
-use Rattle.lower.proofs.simulation.Way.{Program, Live, after_wraps}
+use Rattle.lower.proofs.simulation.Way.{Program, Live, N, after_wraps}
+use Rattle.lower.proofs.words.Operands.{and_true}
+use Rattle.lower.proofs.simulation.Gives.{living}
+use Rattle.lower.proofs.simulation.Calls.{runs_first}
 use Rattle.lower.proofs.words.Steps.{at}
 
 module _ (program : Program) (memory : Memory) (statics : Holds memory program.l.first program.l.statics)
@@ -44,38 +47,34 @@ module _ (program : Program) (memory : Memory) (statics : Holds memory program.l
       at (first_world input) first_heap (entry_waiting program.answer ∷ []) (levels p.params p.body + 10) []
       (bind 0 (0 ∷ []) no_locals) (low_proc program.run p).code
 
-  pub first_live : (entry : ℕ) (p : Proc) → slice_get program.procs entry ≡ Some p → p.params ≡ 0
-      → (p.captured == 0) ≡ true → (p.group == 0) ≡ true
+  -- a procedure that takes nothing has neither parameters nor captured names, and is alone
+  nothing_taken : (p : Proc) → takes_nothing (Some p) ≡ true
+      → (p.params ≡ 0) × (p.captured ≡ 0) × (p.group ≡ 0)
+  nothing_taken p e =
+      let x = and_true (p.params == 0) ((p.captured == 0) && (p.group == 0)) e in
+      let y = and_true (p.captured == 0) (p.group == 0) x.1 in
+      (eqb-true p.params 0 x.0, eqb-true p.captured 0 y.0, eqb-true p.group 0 y.1)
+
+  -- the program's first procedure calls it
+  pub first_step : (entry : ℕ) (p : Proc) → slice_get program.procs entry ≡ Some p → takes_nothing (Some p) ≡ true
+      → (N program).step (low_start program.setting (entry_proc entry program.answer) memory (first_world input))
+      ≡ Go (entered_low p)
+  first_step entry p there takes =
+      let low = program.stand entry p there in
+      let none = (nothing_taken p takes).0 in
+      let fine = enters (suc p.params) (levels p.params p.body + 10) (omega (arith, none)) (omega arith) in
+      rw (low, fine) refl
+    where
+      enters : (n k : ℕ) → n ≡ 1 → 10 ≤ k → ((1 == n) && (nat_le n 8 && nat_le n k)) ≡ true
+      enters n k a b = grind (arith, a, b)
+
+  pub first_live : (entry : ℕ) (p : Proc) → slice_get program.procs entry ≡ Some p → takes_nothing (Some p) ≡ true
       → Live (after_wraps program 0) (entered_flat p) 0 (entered_low p)
-  first_live entry p there none nothing single =
-      let c = proc_is_closed program.procs program.closed entry p there in
-      record {
-        is = refl;
-        related = record {
-          places = [];
-          objects = [];
-          filled = first_filled;
-          cells = tt;
-          world = refl;
-          goes = record {
-            s = shape_of p;
-            count = p.group;
-            depth = p.params;
-            next = ToCaller;
-            is = refl;
-            fits = record {
-              bound = c.bound;
-              params = le_refl p.params;
-              few = c.params;
-              room = le_refl (levels p.params p.body + 10);
-              knows = record {
-                own = 0;
-                own_is = refl;
-                own_group = inl (eqb-true p.captured 0 nothing, eqb-true p.group 0 single);
-                local = λ i lt. absurd (omega (arith, lt, none));
-              };
-            };
-            rest = inl (refl, refl, refl);
-          };
-        };
-      }
+  first_live entry p there takes =
+      let none = (nothing_taken p takes).0 in
+      living (after_wraps program 0) [] [] first_heap (entered_flat p) refl first_filled tt
+      (entry_waiting program.answer ∷ []) (levels p.params p.body + 10) [] (bind 0 (0 ∷ []) no_locals)
+      (low_proc program.run p).code 0
+      (runs_first (after_wraps program 0) [] [] entry p (new_group 0 []) (λ level. RunUnit) 0 []
+      (entry_waiting program.answer ∷ []) [] there (inl ((nothing_taken p takes).1, (nothing_taken p takes).2))
+      (λ i lt. absurd (omega (arith, lt, none))) (inl (refl, refl, refl)))

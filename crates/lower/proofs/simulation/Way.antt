@@ -30,12 +30,10 @@ use Rattle.lower.specs.Storage.{Filled}
 use Rattle.lower.specs.declared.served.Served.{Served}
 use Rattle.lower.specs.Lowered.{low_proc}
 use Rattle.lower.specs.Relation.{Related}
-use Rattle.lower.specs.SimulationServices.{AnswerProducts}
-use Rattle.lower.specs.SchemeLaws.{CastsMade, CastsHaveWords, CastsInPlace, PartsGiven}
-use Rattle.lower.specs.SchemeLaws.{CellsServed, CallsMade}
+use Rattle.lower.specs.Following.{Serving}
 use Rattle.lower.specs.SimulationClaims.{AreNarrow, AreCodeAddresses}
 use Rattle.lower.proofs.words.Credits.{By, by_more, by_now}
-use Rattle.lower.proofs.words.Steps.{Comes, Goal, at, left_of}
+use Rattle.lower.proofs.words.Steps.{Calm, Comes, Goal, at, left_of}
 use Rattle.lower.proofs.words.Scene.{Scene}
 use Rattle.lower.specs.Meanings.{Meaning, MeaningLaws, is_last}
 
@@ -92,13 +90,7 @@ pub record Program : Type 1 where
   pub addresses : AreCodeAddresses setting.procs setting.address
   pub closed : each_closed procs procs ≡ true
   pub narrow : AreNarrow procs
-  pub products : AnswerProducts setting run
-  pub casting : CastsMade meaning setting l procs casts measured run
-  pub words : CastsHaveWords meaning setting l procs casts measured run
-  pub made_in_place : CastsInPlace meaning setting l procs casts measured run
-  pub parts : PartsGiven meaning setting l procs casts measured run
-  pub cells : CellsServed meaning setting l procs casts measured run
-  pub calling : CallsMade meaning setting l procs casts measured run
+  pub serves : Serving meaning setting l procs casts measured run
 
 -- the mode in which casts are made
 abbrev pub mode_of : (program : Program) → Mode program.meaning.Cast
@@ -172,6 +164,27 @@ module _ (program : Program) where
     pub e : Ending Verdict
     pub is : f.ended ≡ Some e
     pub ends : UnlessWrong e (Ends f e t)
+
+  -- a state that has gone wrong is left open
+  abbrev pub wrong_over : (f : FlatState program.meaning.Cast) (t : LowState) → f.ended ≡ Some Wrong → Seen f t → Over
+      f t
+  wrong_over f t is seen = record { seen = seen; e = Wrong; is = is; ends = tt }
+
+  -- one that has ended goes with a state whose next step ends so
+  abbrev pub stopped_over : (f : FlatState program.meaning.Cast) (v : Verdict) (t : LowState)
+      → f.ended ≡ Some (EndsWith v) → Stopping f (EndsWith v) t → Over f t
+  stopped_over f v t is stopping = record {
+    seen = stopping.now;
+    e = EndsWith v;
+    is = is;
+    ends = record {
+      steps = 0;
+      price = 0;
+      small = omega arith;
+      cheap = omega arith;
+      reach = (stopping, le_refl t.words, le_refl (stack_room t));
+    };
+  }
 
   -- what it costs until then
   abbrev pub over_price : (f : FlatState program.meaning.Cast) (t : LowState) (e : Ending Verdict)
@@ -328,11 +341,14 @@ module _ (program : Program) where
       → world.output ≡ f.world.output → Allowed f f' base world base
   at_start f f' world base e = inl (e, omega arith)
 
-  -- what lemmas on code are told, where a turn from f, which began after so many words, comes to f', and its frames
-  -- have this room
-  abbrev pub scene_for : FlatState program.meaning.Cast → FlatState program.meaning.Cast → ℕ → ℕ → Goal → List ℕ
+  -- what lemmas on code are told of the program, and of its walk
+  abbrev pub scene_with : List ℕ → (P : LowState → Type 0) (Q : Goal) (allowed : WorldState → ℕ → Type 0) (room : ℕ)
+      → ((world : WorldState) (h : Heap) (objects : List Object)
+      → Filled program.meaning program.setting program.l program.number objects h → allowed world h.words → (count : ℕ)
+      (waiting : List LowWaiting) → frame_room count + waiting_room waiting ≤ room
+      → Calm program.setting P Q count waiting world h)
       → Scene
-  scene_for f f' base room Q places = record {
+  scene_with places P Q allowed room calm = record {
     meaning = program.meaning;
     laws = program.laws;
     number = program.number;
@@ -344,12 +360,19 @@ module _ (program : Program) where
     procs = program.procs;
     answer = program.answer;
     places = places;
-    P = Way f f' base room;
+    P = P;
     Q = Q;
-    allowed = Allowed f f' base;
+    allowed = allowed;
     room = room;
-    calm = λ world h objects filled allowed count waiting fits rests locals code. (allowed, (objects, filled), fits);
+    calm = calm;
   }
+
+  -- where a turn from f, which began after so many words, comes to f', and its frames have this room
+  abbrev pub scene_for : FlatState program.meaning.Cast → FlatState program.meaning.Cast → ℕ → ℕ → Goal → List ℕ
+      → Scene
+  scene_for f f' base room Q places =
+      scene_with places (Way f f' base room) Q (Allowed f f' base) room
+      (λ world h objects filled allowed count waiting fits rests locals code. (allowed, (objects, filled), fits))
 
 -- at the end of a stretch of code in one procedure
 pub kept_by : (program : Program) (f f' : FlatState program.meaning.Cast) (world world' : WorldState) (h h' : Heap)

@@ -157,26 +157,6 @@ module _ (setting : Setting) where
     unfolding by_stop
     some_stop left more t u e le enough p q = (by_stop left more t u e le enough p q, omega arith)
 
-    pub by_then_some : (P' Q' : LowState → Type 0) → ((t : LowState) → P' t → P t) → (k price credit : ℕ)
-        (t : LowState) → floor ≤ credit → CostsAtMost ending_of setting k t price → Reaches Steps P' Q' k t
-        → ((u : LowState) → Q' u → SomeBy credit u) → SomeBy (price + credit) t
-    by_then_some P' Q' weak zero price credit t enough c r go = some_more credit (price + credit) t (omega arith)
-        (go t r)
-    by_then_some P' Q' weak (suc k) price credit t enough c r go = by_next (Steps.step t) refl r.1
-      where
-        by_next : (x : Next LowState Verdict) → Steps.step t ≡ x → Onward x P' (Reaches Steps P' Q' k)
-            → SomeBy (price + credit) t
-        by_next (Go u) e o =
-            let z = costs_rest k price t u e c in
-            let le = z.1 in
-            some_go (z.0 + credit) (price + credit) t u e (omega (arith, le)) (weak t r.0)
-            (by_then P' Q' weak k z.0 credit u enough z.2 o (λ v q. (go v q).0))
-        by_next (Stop (EndsWith v) u) e o = absurd o
-        by_next (Stop Wrong u) e o = absurd o
-        by_next (Stop Exhausted u) e o =
-            let le = costs_first k price t u e c in
-            some_stop credit (price + credit) t u e (omega (arith, le)) enough (weak t r.0) (weak u o)
-
     -- where the first part makes a step
     pub by_then_step : (P' Q' : LowState → Type 0) → ((t : LowState) → P' t → P t) → (k price credit : ℕ)
         (t : LowState) → floor ≤ credit → CostsAtMost ending_of setting (suc k) t price
@@ -196,6 +176,15 @@ module _ (setting : Setting) where
         by_next (Stop Exhausted u) e o =
             let le = costs_first k price t u e c in
             some_stop credit (price + credit) t u e (omega (arith, le)) enough (weak t r.0) (weak u o)
+
+    -- where the second does
+    pub by_then_some : (P' Q' : LowState → Type 0) → ((t : LowState) → P' t → P t) → (k price credit : ℕ)
+        (t : LowState) → floor ≤ credit → CostsAtMost ending_of setting k t price → Reaches Steps P' Q' k t
+        → ((u : LowState) → Q' u → SomeBy credit u) → SomeBy (price + credit) t
+    by_then_some P' Q' weak zero price credit t enough c r go = some_more credit (price + credit) t (omega arith)
+        (go t r)
+    by_then_some P' Q' weak (suc k) price credit t enough c r go =
+        by_then_step P' Q' weak k price credit t enough c r (λ u q. (go u q).0)
 
     -- what holds is weakened
     pub by_weaken : (P' : LowState → Type 0) (H' : ℕ → LowState → Type 0) → (credit : ℕ) (t : LowState)

@@ -285,6 +285,16 @@ module _ (scene : Scene) (world : WorldState) (h : Heap) (allowed : scene.allowe
       value_carried (BoolCase b) bound words knows = ((if b then 1 else 0), refl)
       value_carried UnitCase bound words knows = (0, refl)
 
+      pub values_carried : (os : List Operand) → operands_bound s.captured count depth os ≡ true → (words : Locals)
+          → KnowsHere s count group depth locals words
+          → (ws : List ℕ) × CarryAll scene objects (in_row (values locals group os)) ws
+      values_carried [] bound words knows = ([], tt)
+      values_carried (o ∷ os) bound words knows =
+          let x = and_true (operand_bound s.captured count depth o) (operands_bound s.captured count depth os) bound in
+          let c = value_carried o x.0 words knows in
+          let cs = values_carried os x.1 words knows in
+          (c.0 ∷ cs.0, (c.1, cs.1))
+
       -- a source that is found stays where it is
       pub found_same : (o : Operand) (d : ℕ) → operand_bound s.captured count depth o ≡ true → (words new : Locals)
           → SameNamed s depth words new → new d ≡ words d → word_of new (found s d o) ≡ word_of words (found s d o)

@@ -24,6 +24,7 @@ use Rattle.flat_ir.specs.Closed.{operand_bound, operands_bound, operation_bound}
 use Rattle.flat_ir.specs.Machine.{FlatValue, FlatValues, Group, Locals as FlatLocals, value, values}
 use Rattle.object_layout.specs.Kinds.{kind_number}
 use Rattle.coercion_norm.specs.Objects.{Object, Fixed, bytes_of, bytes_of_all, object_at}
+use Rattle.rt_cast.specs.Words.{kind_mask}
 use Rattle.rt_cast.specs.Frames.{frame_room, waiting_room}
 use Rattle.rt_cast.specs.States.{Heap}
 use Rattle.lower.specs.Storage.{Filled}
@@ -188,14 +189,15 @@ module _ (scene : Scene) (world : WorldState) (h : Heap) (allowed : scene.allowe
       → ((new : Locals) → Changes (test_word s) now new
       → Arrives scene (at world h waiting size (k ∷ rests) new one))
       → Arrives scene (at world h waiting size rests (set_local (test_word s) (kind + 4294967296 * c) now) (
-      Compute And (test_word s) (Word (test_word s)) (Number 255) (
+      Compute And (test_word s) (Word (test_word s)) (Number kind_mask) (
       If Eq (Word (test_word s)) (Number kind) one other k)))
   after_load kind c one other k now small go =
       let t = test_word s in
       let lt : t < size = omega (arith, room) in
       let head : ℕ = kind + 4294967296 * c in
       let first = set_local t head now in
-      computes scene.setting scene.P scene.Q calm head 255 kind (word_here t head now) refl (kind_read kind c small) lt
+      computes scene.setting scene.P scene.Q calm head kind_mask kind (word_here t head now) refl
+      (kind_read kind c small) lt
       (if_true scene.setting scene.P scene.Q calm kind (kind % 2 ^ 64) (word_here t kind first) refl
       (same_number kind small)
       (go (set_local t kind first) (λ j ne. word_other t kind first j ne ∙ word_other t head now j ne)))

@@ -8,6 +8,7 @@ use Rattle.rt_refs.proofs.Public.{products_are_answered, quotients_are_answered,
 use Rattle.rt_refs.proofs.Public.{zero_divisors_trap}
 use Rattle.lower.specs.declared.served.Served.{Served}
 use Rattle.lower.specs.SimulationServices.{AnswerProducts}
+use Rattle.lower.proofs.words.Standing.{stands_as}
 
 module _ (setting : Setting) (run : Served) (loop quotient : ℕ)
     (product_there : slice_get setting.procs loop ≡ Some (product_loop loop))
@@ -17,24 +18,12 @@ module _ (setting : Setting) (run : Served) (loop quotient : ℕ)
   pub products_are_served : AnswerProducts setting run
   products_are_served = record {
     multiply = multiply loop;
-    multiply_stands = record {
-      there = multiply_there;
-      takes = refl;
-      few = omega arith;
-      room = omega arith;
-      small = omega arith;
-    };
+    multiply_stands = stands_as setting run.multiply (multiply loop) multiply_there refl;
     products = λ s a b small few.
         let z = products_are_answered ending_of setting s loop a b product_there small few in
         (579, (z.0, z.1, z.2, let c = z.3 in omega (arith, c)));
     divide = divide quotient;
-    divide_stands = record {
-      there = divide_there;
-      takes = refl;
-      few = omega arith;
-      room = omega arith;
-      small = omega arith;
-    };
+    divide_stands = stands_as setting run.divide (divide quotient) divide_there refl;
     quotients = λ s n d small few some.
         let z = quotients_are_answered ending_of setting s quotient n d quotient_there small few some in
         (851, (z.0, z.1, z.2, let c = z.3 in omega (arith, c)));

@@ -189,6 +189,24 @@ module _ (setting : Setting) (P : LowState → Type 0) (Q : Goal) where
   Calm count waiting world h =
       (rests : List Code) (locals : Locals) (code : Code) → P (at world h waiting count rests locals code)
 
+  -- the step of a load
+  loads_so : (world : WorldState) (h : Heap) (waiting : List Waiting) (count : ℕ) (rests : List Code) (locals : Locals)
+      (d offset : ℕ) (a : LowSource) (rest : Code) (x w : ℕ) → word_of locals a ≡ Some x
+      → may_load setting.top (x + offset) ≡ true → load_bytes 8 h.memory (x + offset) ≡ w → x + offset < 2 ^ 64
+      → d < count
+      → N.step (at world h waiting count rests locals (Load d a offset rest))
+      ≡ Go (at world h waiting count rests (set_local d w locals) rest)
+  loads_so world h waiting count rests locals d offset a rest x w e m s small lt =
+      let p = plus_is x offset small in
+      let less = lt_true d count lt in
+      let next = at world h waiting count rests locals rest in
+      ap (λ x. given (at world h waiting count rests locals (Load d a offset rest)) x
+      (λ x. load ending_of setting d (plus x (pos offset)) next)) e
+      ∙ (ap (λ n. load ending_of setting d n next) p
+      ∙ (ap (λ b. only_if next b (sets ending_of setting d (load_bytes 8 h.memory (x + offset)) next)) m
+      ∙ (ap (λ n. sets ending_of setting d n next) s
+      ∙ ap (λ b. only_if next b (Go (at world h waiting count rests (set_local d w locals) rest))) less)))
+
   module _ {world : WorldState} {h : Heap} {waiting : List Waiting} {count : ℕ} (calm : Calm count waiting world h)
       {rests : List Code} {locals : Locals} where
     within : (code : Code) (t' : LowState) → N.step (at world h waiting count rests locals code) ≡ Go t'
@@ -233,37 +251,19 @@ module _ (setting : Setting) (P : LowState → Type 0) (Q : Goal) where
         → d < count → Comes (at world h waiting count rests (set_local d w locals) rest)
         → Comes (at world h waiting count rests locals (Load d a offset rest))
     loads {d = d} {offset = offset} {a = a} {rest = rest} x w e m s small lt c =
-        let p = plus_is x offset small in
-        let less = lt_true d count lt in
-        let next = at world h waiting count rests locals rest in
-        within (Load d a offset rest) (at world h waiting count rests (set_local d w locals) rest) (
-        ap (λ x. given (at world h waiting count rests locals (Load d a offset rest)) x
-        (λ x. load ending_of setting d (plus x (pos offset)) next))
-        e
-        ∙ (ap (λ n. load ending_of setting d n next) p
-        ∙ (ap (λ b. only_if next b (sets ending_of setting d (load_bytes 8 h.memory (x + offset)) next)) m
-        ∙ (ap (λ n. sets ending_of setting d n next) s
-        ∙ ap (λ b. only_if next b (Go (at world h waiting count rests (set_local d w locals) rest))) less)))
-        ) (behind setting count rests (Load d a offset rest) rest) c
+        within (Load d a offset rest) (at world h waiting count rests (set_local d w locals) rest)
+        (loads_so world h waiting count rests locals d offset a rest x w e m s small lt)
+        (behind setting count rests (Load d a offset rest) rest) c
 
     pub loads_first : {d offset : ℕ} {a : LowSource} {rest : Code} (x w : ℕ) → word_of locals a ≡ Some x
         → may_load setting.top (x + offset) ≡ true → load_bytes 8 h.memory (x + offset) ≡ w → x + offset < 2 ^ 64
         → d < count → Comes (at world h waiting count rests (set_local d w locals) rest)
         → Moves (at world h waiting count rests locals (Load d a offset rest))
     loads_first {d = d} {offset = offset} {a = a} {rest = rest} x w e m s small lt c =
-        let p = plus_is x offset small in
-        let less = lt_true d count lt in
-        let next = at world h waiting count rests locals rest in
         moved (at world h waiting count rests locals (Load d a offset rest))
-        (at world h waiting count rests (set_local d w locals) rest) (
-        ap (λ x. given (at world h waiting count rests locals (Load d a offset rest)) x
-        (λ x. load ending_of setting d (plus x (pos offset)) next))
-        e
-        ∙ (ap (λ n. load ending_of setting d n next) p
-        ∙ (ap (λ b. only_if next b (sets ending_of setting d (load_bytes 8 h.memory (x + offset)) next)) m
-        ∙ (ap (λ n. sets ending_of setting d n next) s
-        ∙ ap (λ b. only_if next b (Go (at world h waiting count rests (set_local d w locals) rest))) less)))
-        ) (behind setting count rests (Load d a offset rest) rest) (calm rests locals (Load d a offset rest)) c
+        (at world h waiting count rests (set_local d w locals) rest)
+        (loads_so world h waiting count rests locals d offset a rest x w e m s small lt)
+        (behind setting count rests (Load d a offset rest) rest) (calm rests locals (Load d a offset rest)) c
 
     pub stores : {b a : LowSource} {offset : ℕ} {rest : Code} (x y : ℕ) → word_of locals b ≡ Some y
         → word_of locals a ≡ Some x → may_store setting.region setting.top (x + offset) ≡ true → x + offset < 2 ^ 64
