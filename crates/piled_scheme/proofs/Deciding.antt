@@ -111,29 +111,11 @@ module _ (types : TypeRows) (all : List TypeCast) (cast : TypeCast) (part : ℕ)
       both_ways : (inner outer : TypeRow) → is_base inner ≡ true → is_base outer ≡ true
           → fate inner outer cast.label ≡ fate outer inner cast.label
       both_ways IntRow IntRow h g = refl
-      both_ways IntRow BoolRow h g = refl
-      both_ways IntRow UnitRow h g = refl
-      both_ways BoolRow IntRow h g = refl
+      both_ways IntRow _ h g = refl
       both_ways BoolRow BoolRow h g = refl
-      both_ways BoolRow UnitRow h g = refl
-      both_ways UnitRow IntRow h g = refl
-      both_ways UnitRow BoolRow h g = refl
+      both_ways BoolRow _ h g = refl
       both_ways UnitRow UnitRow h g = refl
-      both_ways IntRow DynRow h g = refl
-      both_ways IntRow (FunRow ps a) h g = refl
-      both_ways IntRow (TupleRow ps) h g = refl
-      both_ways IntRow (RefRow a) h g = refl
-      both_ways IntRow (VectRow a) h g = refl
-      both_ways BoolRow DynRow h g = refl
-      both_ways BoolRow (FunRow ps a) h g = refl
-      both_ways BoolRow (TupleRow ps) h g = refl
-      both_ways BoolRow (RefRow a) h g = refl
-      both_ways BoolRow (VectRow a) h g = refl
-      both_ways UnitRow DynRow h g = refl
-      both_ways UnitRow (FunRow ps a) h g = refl
-      both_ways UnitRow (TupleRow ps) h g = refl
-      both_ways UnitRow (RefRow a) h g = refl
-      both_ways UnitRow (VectRow a) h g = refl
+      both_ways UnitRow _ h g = refl
       both_ways DynRow outer h g = absurd (let z : ⊥ = cc in z)
       both_ways (FunRow ps a) outer h g = absurd (let z : ⊥ = cc in z)
       both_ways (TupleRow ps) outer h g = absurd (let z : ⊥ = cc in z)

@@ -299,25 +299,10 @@ module _ (setting : Setting) (l : Layout) (procs : List Proc) (casts : List Type
     by_index cell a c (RunInt k) wi ci n filled credit =
         element_read setting l procs casts m placed begins s places objects store cells base unbox cell a c k wi ci n
         filled credit
-    by_index cell a c (RunBool b) wi ci n filled credit = refl
-    by_index cell a c RunUnit wi ci n filled credit = refl
-    by_index cell a c (RunFun code captured) wi ci n filled credit = refl
-    by_index cell a c (RunTuple values) wi ci n filled credit = refl
-    by_index cell a c (RunLoc other b) wi ci n filled credit = refl
-    by_index cell a c (RunWrap y z) wi ci n filled credit = refl
-    by_index cell a c (RunInject y z) wi ci n filled credit = refl
+    by_index cell a c _ wi ci n filled credit = refl
 
     pub reads_for : (vs : List (FlatValue TypeCast)) (ws : List ℕ) → AllCarried vs ws → (n : ℕ) → Filling n
         → (i : ℕ) × Does i (turned VectorRef vs base) 0 n (reading_at 1 (at_or_zero ws 0) (at_or_zero ws 1))
-    reads_for [] ws c n filled = (0, refl)
-    reads_for (RunInt x ∷ vs) ws c n filled = (0, refl)
-    reads_for (RunBool b ∷ vs) ws c n filled = (0, refl)
-    reads_for (RunUnit ∷ vs) ws c n filled = (0, refl)
-    reads_for (RunFun code captured ∷ vs) ws c n filled = (0, refl)
-    reads_for (RunTuple values ∷ vs) ws c n filled = (0, refl)
-    reads_for (RunInject v kept ∷ vs) ws c n filled = (0, refl)
-    reads_for (RunLoc cell false ∷ vs) ws c n filled = (0, refl)
-    reads_for (RunLoc cell true ∷ []) ws c n filled = (0, refl)
     reads_for (RunLoc cell true ∷ index ∷ x ∷ more) ws c n filled = (
       0,
       subst (λ y. Does 0 y 0 n (reading_at 1 (at_or_zero ws 0) (at_or_zero ws 1))) (sym (too_many cell index x more))
@@ -328,8 +313,6 @@ module _ (setting : Setting) (l : Layout) (procs : List Proc) (casts : List Type
     reads_for (RunLoc cell true ∷ index ∷ []) (wv ∷ wi ∷ x ∷ ws) c n filled = absurd c.1.1
     reads_for (RunLoc cell true ∷ index ∷ []) (wv ∷ wi ∷ []) c n filled =
         (0, by_index cell wv c.0 index wi c.1.0 n filled 0)
-    reads_for (RunWrap v cast ∷ []) ws c n filled = (0, refl)
-    reads_for (RunWrap v cast ∷ index ∷ x ∷ more) ws c n filled = (0, refl)
     reads_for (RunWrap v cast ∷ index ∷ []) [] c n filled = absurd c
     reads_for (RunWrap v cast ∷ index ∷ []) (wv ∷ []) c n filled = absurd c.1
     reads_for (RunWrap v cast ∷ index ∷ []) (wv ∷ wi ∷ x ∷ ws) c n filled = absurd c.1.1
@@ -357,25 +340,16 @@ module _ (setting : Setting) (l : Layout) (procs : List Proc) (casts : List Type
                     ),
               ),
             )
+    reads_for _ ws c n filled = (0, refl)
 
     pub measures_for : (vs : List (FlatValue TypeCast)) (ws : List ℕ) → AllCarried vs ws → (n : ℕ) → Filling n
         → (i : ℕ) × Does i (turned VectorLength vs base) 0 n (reading_at 2 (at_or_zero ws 0) 0)
-    measures_for [] ws c n filled = (0, refl)
-    measures_for (RunInt x ∷ vs) ws c n filled = (0, refl)
-    measures_for (RunBool b ∷ vs) ws c n filled = (0, refl)
-    measures_for (RunUnit ∷ vs) ws c n filled = (0, refl)
-    measures_for (RunFun code captured ∷ vs) ws c n filled = (0, refl)
-    measures_for (RunTuple values ∷ vs) ws c n filled = (0, refl)
-    measures_for (RunInject v kept ∷ vs) ws c n filled = (0, refl)
-    measures_for (RunLoc cell false ∷ vs) ws c n filled = (0, refl)
-    measures_for (RunLoc cell true ∷ x ∷ vs) ws c n filled = (0, refl)
     measures_for (RunLoc cell true ∷ []) [] c n filled = absurd c
     measures_for (RunLoc cell true ∷ []) (wv ∷ x ∷ ws) c n filled = absurd c.1
     measures_for (RunLoc cell true ∷ []) (wv ∷ []) c n filled = (
       0,
       length_read setting l procs casts m placed begins s places objects store cells base unbox cell wv c.0 n filled 0,
     )
-    measures_for (RunWrap v cast ∷ x ∷ vs) ws c n filled = (0, refl)
     measures_for (RunWrap v cast ∷ []) [] c n filled = absurd c
     measures_for (RunWrap v cast ∷ []) (wv ∷ x ∷ ws) c n filled = absurd c.1
     measures_for (RunWrap v cast ∷ []) (wv ∷ []) c n filled =
@@ -393,6 +367,7 @@ module _ (setting : Setting) (l : Layout) (procs : List Proc) (casts : List Type
                 ),
           ),
         )
+    measures_for _ ws c n filled = (0, refl)
 
   module _ (set : ℕ) where
     abbrev writing_at : ℕ → ℕ → ℕ → ℕ → LowState
@@ -400,45 +375,19 @@ module _ (setting : Setting) (l : Layout) (procs : List Proc) (casts : List Type
 
     nothing_to_write : (cast : TypeCast) (v : FlatValue TypeCast) (w : ℕ) → Carries (RunWrap v cast) w
         → (rest : List (FlatValue TypeCast)) → turned VectorSet (RunWrap v cast ∷ rest) base ≡ NoNext
-    nothing_to_write cast v w c [] = refl
-    nothing_to_write cast v w c (RunBool b ∷ rest) = refl
-    nothing_to_write cast v w c (RunUnit ∷ rest) = refl
-    nothing_to_write cast v w c (RunFun code captured ∷ rest) = refl
-    nothing_to_write cast v w c (RunTuple values ∷ rest) = refl
-    nothing_to_write cast v w c (RunLoc other b ∷ rest) = refl
-    nothing_to_write cast v w c (RunWrap y z ∷ rest) = refl
-    nothing_to_write cast v w c (RunInject y z ∷ rest) = refl
-    nothing_to_write cast v w c (RunInt i ∷ []) = refl
-    nothing_to_write cast v w c (RunInt i ∷ x ∷ y ∷ rest) = refl
     nothing_to_write cast v w c (RunInt i ∷ x ∷ []) =
         let none = no_cell l objects setting procs places placed store v cast [] w c in rw (none) refl
+    nothing_to_write cast v w c _ = refl
 
     not_written : (cell : ℕ) (rest : List (FlatValue TypeCast))
         → (turned VectorSet (RunLoc cell true ∷ rest) base ≡ NoNext)
         ⊎ ((k : ℤ) × (x : FlatValue TypeCast) × (rest ≡ RunInt k ∷ x ∷ []))
-    not_written cell [] = inl refl
-    not_written cell (RunBool b ∷ rest) = inl refl
-    not_written cell (RunUnit ∷ rest) = inl refl
-    not_written cell (RunFun code captured ∷ rest) = inl refl
-    not_written cell (RunTuple values ∷ rest) = inl refl
-    not_written cell (RunLoc other b ∷ rest) = inl refl
-    not_written cell (RunWrap y z ∷ rest) = inl refl
-    not_written cell (RunInject y z ∷ rest) = inl refl
-    not_written cell (RunInt i ∷ []) = inl refl
-    not_written cell (RunInt i ∷ x ∷ y ∷ rest) = inl refl
     not_written cell (RunInt i ∷ x ∷ []) = inr (i, x, refl)
+    not_written cell _ = inl refl
 
     pub writes_for : (vs : List (FlatValue TypeCast)) (ws : List ℕ) → AllCarried vs ws → (n : ℕ) → Filling n
         → (i : ℕ) × Does i (turned VectorSet vs base) 0 n
         (writing_at 1 (at_or_zero ws 0) (at_or_zero ws 1) (at_or_zero ws 2))
-    writes_for [] ws c n filled = (0, refl)
-    writes_for (RunInt x ∷ vs) ws c n filled = (0, refl)
-    writes_for (RunBool b ∷ vs) ws c n filled = (0, refl)
-    writes_for (RunUnit ∷ vs) ws c n filled = (0, refl)
-    writes_for (RunFun code captured ∷ vs) ws c n filled = (0, refl)
-    writes_for (RunTuple values ∷ vs) ws c n filled = (0, refl)
-    writes_for (RunInject v kept ∷ vs) ws c n filled = (0, refl)
-    writes_for (RunLoc cell false ∷ vs) ws c n filled = (0, refl)
     writes_for (RunWrap v cast ∷ vs) [] c n filled = absurd c
     writes_for (RunWrap v cast ∷ vs) (wv ∷ ws) c n filled = (
       0,
@@ -473,3 +422,4 @@ module _ (setting : Setting) (l : Layout) (procs : List Proc) (casts : List Type
             of_words (wv ∷ wi ∷ w ∷ x ∷ ws) c = absurd c.1.1.1
             of_words (wv ∷ wi ∷ w ∷ []) c =
                 element_written set cell wv c.0 some.0 wi c.1.0 some.1 w c.1.1.0 n filled 0
+    writes_for _ ws c n filled = (0, refl)

@@ -14,6 +14,7 @@ use Rattle.cast_modes.specs.Modes.{TypeCast}
 use Rattle.coercion_norm.specs.Held.{Layout, There}
 use Rattle.coercion_norm.specs.Objects.{Object, Fixed, header_of}
 use Rattle.flat_ir.specs.Bodies.{Proc}
+use Rattle.rt_cast.specs.Words.{kind_mask}
 use Rattle.rt_cast.specs.PartCodes.{blame_code}
 use Rattle.rt_cast.specs.States.{Placed, heap_of}
 use Rattle.lower.specs.Storage.{Filled}
@@ -77,12 +78,12 @@ module _ (setting : Setting) (l : Layout) (procs : List Proc) (casts : List Type
 
     -- the kind of what stands there is looked at
     pub looked : {rest : Code} {rests : List Code} {locals : Locals} (w : ℕ) (o : Object) → There l objects w o
-        → word_of locals (Word 0) ≡ Some w → (kind : ℕ) → compute And (header_of o) 255 ≡ kind
+        → word_of locals (Word 0) ≡ Some w → (kind : ℕ) → compute And (header_of o) kind_mask ≡ kind
         → To (inside rests (set_local 2 kind (set_local 2 (header_of o) locals)) rest)
         → To (inside rests locals (look rest))
     looked w o stands word kind is c =
         loads_header w o stands word (omega arith)
-        (computes setting P Q calm (header_of o) 255 kind refl refl is (omega arith) c)
+        (computes setting P Q calm (header_of o) kind_mask kind refl refl is (omega arith) c)
 
     -- word 3 is one more than the label that is blamed
     pub blamed : {rests : List Code} {locals : Locals} (label : ℕ) → label < most_labels

@@ -2,9 +2,11 @@
 use Rattle.std.proofs.Common.{◌≡◌, ℕ, suc, ◌+◌, ◌^◌, ◌<◌, List, [], ◌∷◌, length, Some, None, refl}
 use Rattle.std.proofs.Common.{sym, ap, ◌∙◌, subst, arith, slice_get, ℤ, ◌%◌}
 use Rattle.std.specs.Int.{w64, cast_unsigned}
+use Rattle.grift_base.specs.declared.operators.PrimOp.{PrimOp}
 use Rattle.grift_base.specs.declared.operators.PrimOp.TheVariants.{Unbox, BoxSet}
 use Rattle.grift_base.specs.Types.{TypeRows}
 use Rattle.core_calc.specs.Account.{Measures}
+use Rattle.low_ir.specs.Procedures.{Proc as LowProc}
 use Rattle.low_ir.specs.Run.{Setting, LowState}
 use Rattle.cast_modes.specs.Modes.{TypeCast, piling}
 use Rattle.cast_modes.specs.RunValues.{RunInt, RunBool, RunUnit, RunFun, RunTuple, RunLoc, RunWrap, RunInject}
@@ -26,9 +28,10 @@ use Rattle.lower.specs.CastWays.{cast_ways}
 use Rattle.lower.specs.Emit.{cast_word}
 use Rattle.lower.specs.Following.{ServesEverywhere}
 use Rattle.lower.specs.SchemeLaws.{Here, Answers, Serves, Calls, CastsMade, PartsGiven, CellsServed, CallsMade}
-use Rattle.lower.specs.SchemeLaws.{OperatorDone, at_or_zero, operator_leaves, part_leaves}
+use Rattle.lower.specs.SchemeLaws.{OperatorDone, IsHandedOn, at_or_zero, operator_leaves, part_leaves}
+use Rattle.lower.specs.declared.served.Served.{Served}
 use Rattle.lower.specs.Sets.{StandFrom, with_casts}
-use Rattle.lower.proofs.Public.{LetsFill, products_are_served, vectors_are_served}
+use Rattle.lower.proofs.Public.{LetsFill, products_are_served, stands_as, vectors_are_served}
 use Rattle.piled_scheme.specs.Codes.{cast_proc, idle_proc, read_proc, write_proc, piled_procs, piled_numbers}
 use Rattle.piled_scheme.specs.Piling.{piled_meaning, ArePiled, IsBoxCast}
 use Rattle.piled_scheme.proofs.Casting.{cast_made, handed_on, known_words, none_in_place}
@@ -60,6 +63,9 @@ piled_lets l casts m = record {
 module _ (setting : Setting) (l : Layout) (procs : List Proc) (casts : List TypeCast) (m : Measures) (first : ℕ)
     (words : List ℕ) (placed : Placed setting l) (begins : l.region ≡ setting.region) (narrow : setting.top < 2 ^ 34)
     (held : ArePiled l casts words) (stand : StandFrom setting.procs first (piled_procs first)) where
+  abbrev serving : Served
+  serving = with_casts (piled_numbers first) words (cast_ways l.types casts)
+
   cast_stands : slice_get setting.procs first ≡ Some cast_proc
   cast_stands = let z : first ≡ 0 + first = omega arith in ap (slice_get setting.procs) z ∙ stand 0 cast_proc refl
 
@@ -68,17 +74,10 @@ module _ (setting : Setting) (l : Layout) (procs : List Proc) (casts : List Type
       let z : suc (9 + first) ≡ 10 + first = omega arith in
       ap (slice_get setting.procs) z ∙ stand 10 (quotient_loop (suc (9 + first))) refl
 
-  casting : CastsMade piled_meaning setting l procs casts m (with_casts (piled_numbers first) words
-      (cast_ways l.types casts))
+  casting : CastsMade piled_meaning setting l procs casts m serving
   casting = record {
     proc = cast_proc;
-    stands = record {
-      there = cast_stands;
-      takes = refl;
-      few = omega arith;
-      room = omega arith;
-      small = omega arith;
-    };
+    stands = stands_as setting _ cast_proc cast_stands refl;
     makes = λ s number places objects store here base row cast e v w c.
         let p = held.0 row cast e in (
           0,
@@ -87,17 +86,10 @@ module _ (setting : Setting) (l : Layout) (procs : List Proc) (casts : List Type
         );
   }
 
-  parts : PartsGiven piled_meaning setting l procs casts m (with_casts (piled_numbers first) words
-      (cast_ways l.types casts))
+  parts : PartsGiven piled_meaning setting l procs casts m serving
   parts = record {
     proc = idle_proc 4;
-    stands = record {
-      there = stand 1 (idle_proc 4) refl;
-      takes = refl;
-      few = omega arith;
-      room = omega arith;
-      small = omega arith;
-    };
+    stands = stands_as setting _ (idle_proc 4) (stand 1 (idle_proc 4) refl) refl;
     gives = λ s number places objects store here base v cast w c part label.
         let z = (peeled l objects setting procs places v cast w c).2 in
         let none = no_parts l.types casts cast z.part z.is part in
@@ -134,27 +126,43 @@ module _ (setting : Setting) (l : Layout) (procs : List Proc) (casts : List Type
   Done s number places objects base x cost te =
       Answers piled_meaning setting l procs casts m s operator_leaves places objects base x cost number 0 te
 
-  unboxes : OperatorDone piled_meaning setting l procs casts m (with_casts (piled_numbers first) words
-      (cast_ways l.types casts)) Unbox (read_proc (7 + first)) (λ ws. 0 ∷ at_or_zero ws 0 ∷ 0 ∷ [])
-  unboxes = record {
-    does = λ s number places objects store here base vs ws c handed.
-        subst (λ xs. Done s number places objects base
-        (flat_operate procs (piling l.types casts) store s.world Unbox xs base)
-        (operator_cost procs (piling l.types casts) (piled_prices (piling l.types casts) m) Unbox xs)
-        (entered s (read_proc (7 + first)) (0 ∷ at_or_zero ws 0 ∷ 0 ∷ []))) (sym handed.3)
-        (of_wrapped s number places objects store here base handed.0 handed.1 handed.2 ws
-        (subst (λ xs. AreCarried l setting.address procs piled_meaning places objects (in_row xs) ws) handed.3 c));
-  }
+  -- an operator whose first operand is in a wrapper, by what its procedure does
+  module _ (op : PrimOp) (proc : LowProc) (handed : List ℕ → List ℕ) where
+    abbrev Wrapped : Type 0
+    Wrapped =
+        (s : LowState) (number : ℕ) (places : List ℕ) (objects : List Object) (store : FlatStore TypeCast)
+        → Here piled_meaning setting l procs casts m places objects store number (heap_of s)
+        → (base : List (FlatFrame TypeCast)) (v : FlatValue TypeCast) (cast : TypeCast)
+        (rest : List (FlatValue TypeCast)) (ws : List ℕ)
+        → AreCarried l setting.address procs piled_meaning places objects (in_row (RunWrap v cast ∷ rest)) ws
+        → Done s number places objects base
+        (flat_operate procs (piling l.types casts) store s.world op (RunWrap v cast ∷ rest) base)
+        (operator_cost procs (piling l.types casts) (piled_prices (piling l.types casts) m) op
+        (RunWrap v cast ∷ rest)) (entered s proc (handed ws))
+
+    done_wrapped : ((vs : List (FlatValue TypeCast))
+        → IsHandedOn piled_meaning setting l procs casts m serving op vs
+        → (v : FlatValue TypeCast) × (cast : TypeCast) × (rest : List (FlatValue TypeCast))
+        × (vs ≡ RunWrap v cast ∷ rest)) → Wrapped
+        → OperatorDone piled_meaning setting l procs casts m serving op proc handed
+    done_wrapped split does = record {
+      does = λ s number places objects store here base vs ws c given.
+          let z = split vs given in
+          subst (λ xs. Done s number places objects base
+          (flat_operate procs (piling l.types casts) store s.world op xs base)
+          (operator_cost procs (piling l.types casts) (piled_prices (piling l.types casts) m) op xs)
+          (entered s proc (handed ws))) (sym z.3)
+          (does s number places objects store here base z.0 z.1 z.2 ws
+          (subst (λ xs. AreCarried l setting.address procs piled_meaning places objects (in_row xs) ws) z.3 c));
+    }
+
+  unboxes : OperatorDone piled_meaning setting l procs casts m serving Unbox (read_proc (7 + first))
+      (λ ws. 0 ∷ at_or_zero ws 0 ∷ 0 ∷ [])
+  unboxes =
+      done_wrapped Unbox (read_proc (7 + first)) (λ ws. 0 ∷ at_or_zero ws 0 ∷ 0 ∷ []) (λ vs given. given)
+      of_wrapped
     where
-      of_wrapped : (s : LowState) (number : ℕ) (places : List ℕ) (objects : List Object) (store : FlatStore TypeCast)
-          → Here piled_meaning setting l procs casts m places objects store number (heap_of s)
-          → (base : List (FlatFrame TypeCast)) (v : FlatValue TypeCast) (cast : TypeCast)
-          (rest : List (FlatValue TypeCast)) (ws : List ℕ)
-          → AreCarried l setting.address procs piled_meaning places objects (in_row (RunWrap v cast ∷ rest)) ws
-          → Done s number places objects base
-          (flat_operate procs (piling l.types casts) store s.world Unbox (RunWrap v cast ∷ rest) base)
-          (operator_cost procs (piling l.types casts) (piled_prices (piling l.types casts) m) Unbox
-          (RunWrap v cast ∷ rest)) (entered s (read_proc (7 + first)) (0 ∷ at_or_zero ws 0 ∷ 0 ∷ []))
+      of_wrapped : Wrapped Unbox (read_proc (7 + first)) (λ ws. 0 ∷ at_or_zero ws 0 ∷ 0 ∷ [])
       of_wrapped s number places objects store here base v cast (x ∷ rest) ws c = (0, refl)
       of_wrapped s number places objects store here base v cast [] [] c = absurd c
       of_wrapped s number places objects store here base v cast [] (w ∷ x ∷ ws) c = absurd c.1
@@ -163,28 +171,14 @@ module _ (setting : Setting) (l : Layout) (procs : List Proc) (casts : List Type
           here.cells base v cast w c.0 in
           (r.0, r.1 number here.filled)
 
-  sets : OperatorDone piled_meaning setting l procs casts m (with_casts (piled_numbers first) words
-      (cast_ways l.types casts)) BoxSet (write_proc (8 + first)) (λ ws. 0 ∷ at_or_zero ws 0 ∷ 0 ∷ at_or_zero ws 1 ∷ [])
-  sets = record {
-    does = λ s number places objects store here base vs ws c handed.
-        subst (λ xs. Done s number places objects base
-        (flat_operate procs (piling l.types casts) store s.world BoxSet xs base)
-        (operator_cost procs (piling l.types casts) (piled_prices (piling l.types casts) m) BoxSet xs)
-        (entered s (write_proc (8 + first)) (0 ∷ at_or_zero ws 0 ∷ 0 ∷ at_or_zero ws 1 ∷ []))) (sym handed.3)
-        (of_wrapped s number places objects store here base handed.0 handed.1 handed.2 ws
-        (subst (λ xs. AreCarried l setting.address procs piled_meaning places objects (in_row xs) ws) handed.3 c));
-  }
+  sets : OperatorDone piled_meaning setting l procs casts m serving BoxSet (write_proc (8 + first))
+      (λ ws. 0 ∷ at_or_zero ws 0 ∷ 0 ∷ at_or_zero ws 1 ∷ [])
+  sets =
+      done_wrapped BoxSet (write_proc (8 + first)) (λ ws. 0 ∷ at_or_zero ws 0 ∷ 0 ∷ at_or_zero ws 1 ∷ [])
+      (λ vs given. given)
+      of_wrapped
     where
-      of_wrapped : (s : LowState) (number : ℕ) (places : List ℕ) (objects : List Object) (store : FlatStore TypeCast)
-          → Here piled_meaning setting l procs casts m places objects store number (heap_of s)
-          → (base : List (FlatFrame TypeCast)) (v : FlatValue TypeCast) (cast : TypeCast)
-          (rest : List (FlatValue TypeCast)) (ws : List ℕ)
-          → AreCarried l setting.address procs piled_meaning places objects (in_row (RunWrap v cast ∷ rest)) ws
-          → Done s number places objects base
-          (flat_operate procs (piling l.types casts) store s.world BoxSet (RunWrap v cast ∷ rest) base)
-          (operator_cost procs (piling l.types casts) (piled_prices (piling l.types casts) m) BoxSet
-          (RunWrap v cast ∷ rest))
-          (entered s (write_proc (8 + first)) (0 ∷ at_or_zero ws 0 ∷ 0 ∷ at_or_zero ws 1 ∷ []))
+      of_wrapped : Wrapped BoxSet (write_proc (8 + first)) (λ ws. 0 ∷ at_or_zero ws 0 ∷ 0 ∷ at_or_zero ws 1 ∷ [])
       of_wrapped s number places objects store here base v cast [] ws c = (0, refl)
       of_wrapped s number places objects store here base v cast (x ∷ y ∷ rest) ws c = (0, refl)
       of_wrapped s number places objects store here base v cast (x ∷ []) [] c = absurd c
@@ -195,17 +189,10 @@ module _ (setting : Setting) (l : Layout) (procs : List Proc) (casts : List Type
           store here.cells base x wx c.1.0 v cast w c.0 in
           (r.0, r.1 number here.filled)
 
-  cells : CellsServed piled_meaning setting l procs casts m (with_casts (piled_numbers first) words
-      (cast_ways l.types casts))
+  cells : CellsServed piled_meaning setting l procs casts m serving
   cells = record {
     read = read_proc (7 + first);
-    read_stands = record {
-      there = stand 3 _ refl;
-      takes = refl;
-      few = omega arith;
-      room = omega arith;
-      small = omega arith;
-    };
+    read_stands = stands_as setting _ (read_proc (7 + first)) (stand 3 _ refl) refl;
     unboxes = unboxes;
     reads = record {
       does = λ s number places objects store here base vs ws c handed.
@@ -218,13 +205,7 @@ module _ (setting : Setting) (l : Layout) (procs : List Proc) (casts : List Type
           number here.filled;
     };
     write = write_proc (8 + first);
-    write_stands = record {
-      there = stand 4 _ refl;
-      takes = refl;
-      few = omega arith;
-      room = omega arith;
-      small = omega arith;
-    };
+    write_stands = stands_as setting _ (write_proc (8 + first)) (stand 4 _ refl) refl;
     sets = sets;
     writes = record {
       does = λ s number places objects store here base vs ws c handed.
@@ -232,28 +213,15 @@ module _ (setting : Setting) (l : Layout) (procs : List Proc) (casts : List Type
           number here.filled;
     };
     fill = fill_proc (6 + first);
-    fill_stands = record {
-      there = stand 5 _ refl;
-      takes = refl;
-      few = omega arith;
-      room = omega arith;
-      small = omega arith;
-    };
+    fill_stands = stands_as setting _ (fill_proc (6 + first)) (stand 5 _ refl) refl;
     fills = vectors_are_served piled_meaning piled_laws setting l procs casts m (piled_lets l casts m) placed begins
-        narrow (6 + first) (stand 6 _ refl) (with_casts (piled_numbers first) words (cast_ways l.types casts));
+        narrow (6 + first) (stand 6 _ refl) serving;
   }
 
-  calling : CallsMade piled_meaning setting l procs casts m (with_casts (piled_numbers first) words
-      (cast_ways l.types casts))
+  calling : CallsMade piled_meaning setting l procs casts m serving
   calling = record {
     proc = idle_proc 8;
-    stands = record {
-      there = stand 2 (idle_proc 8) refl;
-      takes = refl;
-      few = omega arith;
-      room = omega arith;
-      small = omega arith;
-    };
+    stands = stands_as setting _ (idle_proc 8) (stand 2 (idle_proc 8) refl) refl;
     calls = λ s number places objects store here base v cast w c vs ws cs few.
         let z = (peeled l objects setting procs places v cast w c).2 in
         let none = no_calls l.types casts cast z.part z.is in
