@@ -36,10 +36,10 @@ use Rattle.lower.specs.MergedMeaning.{merged_meaning, MergedCasts}
 use Rattle.lower.specs.SchemeLaws.{Here, Answers, CastsMade, CastsHaveWords, cast_leaves}
 use Rattle.lower.proofs.heap.Objects.{none_some, same_some}
 use Rattle.lower.proofs.merging.Bounds.{cast_fits}
-use Rattle.lower.proofs.merging.Chains.{Comes, comes_stands, Walking, cast_answers, stuck_or_not}
+use Rattle.lower.proofs.merging.Chains.{begun_by}
+use Rattle.lower.proofs.merging.Chains.{Walking, cast_answers}
 use Rattle.lower.proofs.merging.Laws.{held_later}
 use Rattle.lower.proofs.merging.Like.{Like, solid_head, like_of}
-use Rattle.lower.proofs.merging.Stages.{by_law}
 use Rattle.lower.proofs.words.Standing.{stands_as}
 use Rattle.lower.proofs.merging.States.{filled_of}
 
@@ -127,10 +127,8 @@ module _ (setting : Setting) (l : Layout) (procs : List Proc) (casts : List Type
   begins : Walking setting l procs casts m measured placed s places objects store number here base cast_leaves H
       total (cast_words_of l c like.0) (cast_price_of l c like.0 + 0) te
   begins =
-      by_law setting l procs casts m s (total ≡ Stuck) (stuck_or_not total)
-      (Comes setting l procs casts m measured placed s places objects store number here base cast_leaves H total)
-      (comes_stands setting l procs casts m measured placed s places objects store number here base cast_leaves H
-      total) deep (cast_words_of l c like.0) (cast_price_of l c like.0 + 0) (omega arith) te
+      begun_by setting l procs casts m measured placed s places objects store number here base cast_leaves H total deep
+      (cast_words_of l c like.0) (cast_price_of l c like.0 + 0) (omega arith) te
       (record { objects = objects; filled = rt_filled; same = refl; room = omega arith }) refl
       (λ some. let z = law some in (z.0, z.1, let a = z.2 in omega (arith, a)))
 

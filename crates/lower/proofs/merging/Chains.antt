@@ -1,13 +1,16 @@
 -- What casts of values and parts of tuples come to in the merged mode, in a procedure that comes to the same and
 -- returns it.
-use Rattle.std.proofs.Common.{◌≡◌, ◌⊎◌, inl, inr, ℕ, ◌+◌, ◌≤◌, List, [], ◌∷◌, ◌++◌, Some, slice_get}
+use Rattle.std.proofs.Common.{◌≡◌, ◌⊎◌, inl, inr, ℕ, ◌+◌, ◌*◌, ◌≤◌, List, [], ◌∷◌, ◌++◌, Some, slice_get}
 use Rattle.std.proofs.Common.{refl, sym, ◌∙◌, subst, append-nil, pos}
 use Rattle.grift_base.specs.Types.{TypeHead}
 use Rattle.grift_base.specs.declared.places.Pos.{Pos}
 use Rattle.grift_base.specs.declared.verdicts.Verdict.TheVariants.{Blame}
 use Rattle.run_laws.specs.Runs.{Verdict as EndsWith}
 use Rattle.core_calc.specs.Account.{Measures}
-use Rattle.low_ir.specs.Run.{Setting, LowState}
+use Rattle.low_ir.specs.Prices.{CostsAtMost}
+use Rattle.low_ir.specs.Run.{Setting, LowState, low_machine}
+use Rattle.machine_words.specs.Halts.{ending_of}
+use Rattle.run_laws.specs.Machines.{Reaches}
 use Rattle.coercion_norm.specs.Coercions.{Coercion, rows_of}
 use Rattle.coercion_norm.specs.Normal.{IsNormal}
 use Rattle.coercion_norm.specs.MergedMode.{merging}
@@ -22,7 +25,7 @@ use Rattle.flat_ir.specs.Machine.{FlatValue, FlatFrame, FlatStore, FlatAfter, fl
 use Rattle.rt_cast.specs.Carried.{IsVery, Carries, GivesAt, ComesTo}
 use Rattle.rt_cast.specs.MergedValues.{Merged, Outcome, Stuck, Gives, Blames, cast_value, then_outcome}
 use Rattle.rt_cast.specs.PartValues.{part_value}
-use Rattle.rt_cast.specs.States.{Placed, Filled as RtFilled, heap_of}
+use Rattle.rt_cast.specs.States.{Placed, Filled as RtFilled, OnTheWay, Within, heap_of}
 use Rattle.lower.specs.CarriedValues.{CarriedIn}
 use Rattle.lower.specs.Keeping.{FitsMeasures}
 use Rattle.lower.specs.MergedMeaning.{merged_meaning}
@@ -32,6 +35,7 @@ use Rattle.lower.proofs.merging.Bounds.{Fits}
 use Rattle.lower.proofs.merging.Laws.{merged_laws}
 use Rattle.lower.proofs.merging.Like.{Like, solid_head, like_back, KnownUnder}
 use Rattle.lower.proofs.merging.Stages.{HasRoom, Calm, Stands, Stage, at_end, Settled, settled_calm, Begun, begun}
+use Rattle.lower.proofs.merging.Stages.{by_law}
 use Rattle.lower.proofs.merging.States.{blame_stops, filled_as}
 use Rattle.lower.proofs.merging.Turns.{Ends as EndsBy, IsStrict, Made as MadeBy, PartFits as PartFitsBy}
 use Rattle.lower.proofs.merging.Turns.{cast_made as cast_made_by, ends_cast as ends_cast_by}
@@ -91,6 +95,16 @@ module _ (setting : Setting) (l : Layout) (procs : List Proc) (casts : List Type
   abbrev pub Walking : ℕ → ℕ → LowState → Type 0
   Walking words price t =
       Begun setting l procs casts m s (total ≡ Stuck) (stuck_or_not total) Comes comes_stands words price t
+
+  -- so it begins where a law on the procedure says what it comes to
+  pub begun_by : (frames words price : ℕ) → frames ≤ 4 * l.tallest + 7 → (t : LowState)
+      → Stands setting l procs casts m s t → t.words ≡ s.words
+      → ((total ≡ Stuck → ⊥)
+      → (k : ℕ) × Reaches (low_machine ending_of setting) (OnTheWay setting l s frames words)
+      (λ u. Within s frames words u × Comes u) k t × CostsAtMost ending_of setting k t price)
+      → Walking words price t
+  begun_by =
+      by_law setting l procs casts m s (total ≡ Stuck) (stuck_or_not total) Comes comes_stands
 
   abbrev pub ended : Stage setting l procs casts m s Done
   ended = at_end setting l procs casts m s Done calm

@@ -46,10 +46,11 @@ use Rattle.lower.specs.MergedMeaning.{merged_meaning}
 use Rattle.lower.specs.SchemeLaws.{Here, Answers, Goes, PartsGiven, part_leaves}
 use Rattle.lower.proofs.heap.Objects.{none_some, same_some}
 use Rattle.lower.proofs.merging.Bounds.{Fits, cast_fits, nothing_fits, dyn_fits}
-use Rattle.lower.proofs.merging.Chains.{Comes, comes_stands, Done, Walking, Later, PartFits, aim, ended, walk, blames}
-use Rattle.lower.proofs.merging.Chains.{ends_here, ends_cast_later, value_part, waits_for_part, stuck_or_not}
+use Rattle.lower.proofs.merging.Chains.{begun_by}
+use Rattle.lower.proofs.merging.Chains.{Done, Walking, Later, PartFits, aim, ended, walk, blames}
+use Rattle.lower.proofs.merging.Chains.{ends_here, ends_cast_later, value_part, waits_for_part}
 use Rattle.lower.proofs.merging.Like.{Like, solid_head, like_of, prepared, values_of, head_at}
-use Rattle.lower.proofs.merging.Stages.{Stage, Stands, by_law, stays, takes}
+use Rattle.lower.proofs.merging.Stages.{Stage, Stands, stays, takes}
 use Rattle.lower.proofs.words.Standing.{stands_as}
 use Rattle.lower.proofs.merging.States.{filled_of}
 use Rattle.lower.proofs.words.Arithmetic.{word_small}
@@ -147,23 +148,33 @@ module _ (setting : Setting) (l : Layout) (procs : List Proc) (casts : List Type
   is_ready : IsReady setting l first
   is_ready = record { placed = placed; stand = ready; types = types }
 
+  -- the parts of a value, as the procedures see it
+  abbrev Parts : FlatValue Coercion → Merged ℕ → Type 0
+  Parts u x =
+      (parts : ℕ → List (Merged ℕ)) × Rattle.rt_cast.specs.Carried.HaveParts l (IsVery l) objects parts
+      × ((b : ℕ) → length (parts b) ≤ 8)
+      × ((k : ℕ) (H : TypeHead)
+      → ((x : FlatValue Coercion) → slice_get (values_of setting l procs places objects u) k ≡ Some x
+      → solid_head setting l procs places objects x ≡ H)
+      → Rattle.lower.proofs.merging.Like.KnownUnder setting l procs places objects H parts k u x)
+
+  -- the head of one of them
+  abbrev head_of : FlatValue Coercion → ℕ → TypeHead
+  head_of u k = head_at setting l procs places objects (slice_get (values_of setting l procs places objects u) k)
+
+  heads_are : (u : FlatValue Coercion) (k : ℕ) (x : FlatValue Coercion)
+      → slice_get (values_of setting l procs places objects u) k ≡ Some x
+      → solid_head setting l procs places objects x ≡ head_of u k
+  heads_are u k x e = sym (ap (λ o. head_at setting l procs places objects o) e)
+
   -- of a tuple, in a wrapper or not
   module _ (u : FlatValue Coercion) (x : Merged ℕ) (w : ℕ) (like : Like setting l procs places objects u x)
       (carries : Carries l objects x w) (k label : ℕ) where
-    abbrev prep : (parts : ℕ → List (Merged ℕ)) × Rattle.rt_cast.specs.Carried.HaveParts l (IsVery l) objects parts
-        × ((b : ℕ) → length (parts b) ≤ 8)
-        × ((k : ℕ) (H : TypeHead)
-        → ((x : FlatValue Coercion) → slice_get (values_of setting l procs places objects u) k ≡ Some x
-        → solid_head setting l procs places objects x ≡ H)
-        → Rattle.lower.proofs.merging.Like.KnownUnder setting l procs places objects H parts k u x)
+    abbrev prep : Parts u x
     prep = prepared setting l procs places objects placed (heap_of s) here.filled u x w like carries
 
     abbrev H : TypeHead
-    H = head_at setting l procs places objects (slice_get (values_of setting l procs places objects u) k)
-
-    heads_are : (x : FlatValue Coercion) → slice_get (values_of setting l procs places objects u) k ≡ Some x
-        → solid_head setting l procs places objects x ≡ H
-    heads_are x e = sym (ap (λ o. head_at setting l procs places objects o) e)
+    H = head_of u k
 
     abbrev total : Outcome ℕ
     total = part_value (λ a. H) prep.0 l.types k x
@@ -207,12 +218,8 @@ module _ (setting : Setting) (l : Layout) (procs : List Proc) (casts : List Type
     begins : Walking setting l procs casts m measured placed s places objects store number here base part_leaves
         H total wide dear te
     begins =
-        by_law setting l procs casts m s (total ≡ Stuck) (stuck_or_not total)
-        (Comes setting l procs casts m measured placed s places objects store number here base part_leaves H
-        total)
-        (comes_stands setting l procs casts m measured placed s places objects store number here base part_leaves
-        H total) deep wide dear (omega arith) te (stands_at (w ∷ k % 2 ^ 64 ∷ 1 ∷ label ∷ [])) refl
-        law
+        begun_by setting l procs casts m measured placed s places objects store number here base part_leaves H total
+        deep wide dear (omega arith) te (stands_at (w ∷ k % 2 ^ 64 ∷ 1 ∷ label ∷ [])) refl law
 
     -- the walk fits the turns of the part
     fits_for : (y : Merged ℕ)
@@ -236,7 +243,7 @@ module _ (setting : Setting) (l : Layout) (procs : List Proc) (casts : List Type
         let r = value_part setting l procs casts m measured placed s places objects store number here base part_leaves
         H total prep.0 k
         (walk setting l procs casts m measured placed s places objects store number here base part_leaves H total
-        wide dear) part_leaves u x like (prep.3 k H heads_are) base (λ o. o) (λ label. refl)
+        wide dear) part_leaves u x like (prep.3 k H (heads_are u k)) base (λ o. o) (λ label. refl)
         (ends_here setting l procs casts m measured placed s places objects store number here base part_leaves H
         total) refl in
         (r.0, r.1 te begins number 0 (fits_for x))
@@ -299,12 +306,9 @@ module _ (setting : Setting) (l : Layout) (procs : List Proc) (casts : List Type
     begins_dyn : Walking setting l procs casts m measured placed s places objects store number here base part_leaves
         head total_dyn wide_dyn dear_dyn te_dyn
     begins_dyn =
-        by_law setting l procs casts m s (total_dyn ≡ Stuck) (stuck_or_not total_dyn)
-        (Comes setting l procs casts m measured placed s places objects store number here base part_leaves head
-        total_dyn)
-        (comes_stands setting l procs casts m measured placed s places objects store number here base part_leaves
-        head total_dyn) deep_dyn wide_dyn dear_dyn (omega arith) te_dyn
-        (stands_at (w ∷ part_word ∷ 0 ∷ label ∷ [])) refl law_dyn
+        begun_by setting l procs casts m measured placed s places objects store number here base part_leaves head
+        total_dyn deep_dyn wide_dyn dear_dyn (omega arith) te_dyn (stands_at (w ∷ part_word ∷ 0 ∷ label ∷ [])) refl
+        law_dyn
 
     abbrev Given : FlatAfter Coercion → Type 0
     Given y =
@@ -345,20 +349,11 @@ module _ (setting : Setting) (l : Layout) (procs : List Proc) (casts : List Type
   module _ (u : FlatValue Coercion) (kept : ℕ) (x : Merged ℕ) (w wx : ℕ)
       (like : Like setting l procs places objects u x) (carries : Carries l objects x wx)
       (whole : Carries l objects (InDyn kept x) w) (k label : ℕ) (part_word : ℕ) (word_is : part_word ≡ k) where
-    abbrev prep_dyn : (parts : ℕ → List (Merged ℕ)) × Rattle.rt_cast.specs.Carried.HaveParts l (IsVery l) objects parts
-        × ((b : ℕ) → length (parts b) ≤ 8)
-        × ((k : ℕ) (H : TypeHead)
-        → ((x : FlatValue Coercion) → slice_get (values_of setting l procs places objects u) k ≡ Some x
-        → solid_head setting l procs places objects x ≡ H)
-        → Rattle.lower.proofs.merging.Like.KnownUnder setting l procs places objects H parts k u x)
+    abbrev prep_dyn : Parts u x
     prep_dyn = prepared setting l procs places objects placed (heap_of s) here.filled u x wx like carries
 
     abbrev head_dyn : TypeHead
-    head_dyn = head_at setting l procs places objects (slice_get (values_of setting l procs places objects u) k)
-
-    heads_dyn : (x : FlatValue Coercion) → slice_get (values_of setting l procs places objects u) k ≡ Some x
-        → solid_head setting l procs places objects x ≡ head_dyn
-    heads_dyn x e = sym (ap (λ o. head_at setting l procs places objects o) e)
+    head_dyn = head_of u k
 
     abbrev total_of : Outcome ℕ
     total_of = total_dyn kept x w whole k label part_word word_is prep_dyn.0 prep_dyn.1 head_dyn
@@ -422,7 +417,7 @@ module _ (setting : Setting) (l : Layout) (procs : List Proc) (casts : List Type
       in_cast fit =
           let r = waits_for_part setting l procs casts m measured placed s places objects store number here base
           part_leaves head_dyn total_of prep_dyn.0 k (walks words price) part_leaves u x like
-          (prep_dyn.3 k head_dyn heads_dyn) (CastFrame d ∷ base) after (λ z. refl) to_dyn is_total in (
+          (prep_dyn.3 k head_dyn (heads_are u k)) (CastFrame d ∷ base) after (λ z. refl) to_dyn is_total in (
             r.0,
             (
               refl,
@@ -445,7 +440,7 @@ module _ (setting : Setting) (l : Layout) (procs : List Proc) (casts : List Type
           part_leaves head_dyn total_of prep_dyn.0 k
           (ended setting l procs casts m measured placed s places objects store number here base part_leaves head_dyn
           total_of) part_leaves u x like
-          (prep_dyn.3 k head_dyn heads_dyn) (CastFrame d ∷ base) after (λ z. refl) to_dyn is_total in (
+          (prep_dyn.3 k head_dyn (heads_are u k)) (CastFrame d ∷ base) after (λ z. refl) to_dyn is_total in (
             r.0,
             (
               refl,

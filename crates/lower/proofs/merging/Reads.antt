@@ -30,7 +30,7 @@ use Rattle.rt_cast.specs.LightCasts.{cast_words_of, cast_price_of}
 use Rattle.rt_cast.specs.Procs.{Stand}
 use Rattle.rt_cast.specs.States.{Placed, IsReady, Filled as RtFilled, entered, heap_of}
 use Rattle.rt_cast.specs.Carried.{Carries}
-use Rattle.rt_cast.specs.MergedValues.{Merged, Solid, Proxied, Outcome, Stuck, Gives, cast_value}
+use Rattle.rt_cast.specs.MergedValues.{Merged, Solid, Proxied, Outcome, Gives, cast_value}
 use Rattle.rt_refs.specs.CellCodes.{read_proc}
 use Rattle.rt_refs.specs.CellLaws.{TellsAt, cell_behind, under}
 use Rattle.rt_refs.proofs.Public.{elements_are_read, indices_outside_trap, lengths_are_told}
@@ -45,8 +45,9 @@ use Rattle.lower.proofs.merging.Bounds.{cast_fits}
 use Rattle.lower.proofs.merging.Laws.{merged_laws}
 use Rattle.lower.proofs.merging.Like.{Like, solid_head, like_of, solid}
 use Rattle.lower.proofs.merging.Turns.{cell_part_normal}
-use Rattle.lower.proofs.merging.Chains.{Comes, comes_stands, Walking, returned_now, cast_next, stuck_or_not}
-use Rattle.lower.proofs.merging.Stages.{Stands, stays, lands, trapped_at, by_law, calm_as}
+use Rattle.lower.proofs.merging.Chains.{begun_by}
+use Rattle.lower.proofs.merging.Chains.{Walking, returned_now, cast_next}
+use Rattle.lower.proofs.merging.Stages.{Stands, stays, lands, trapped_at, calm_as}
 use Rattle.lower.proofs.merging.States.{element_past, past_element, as_many}
 use Rattle.lower.proofs.words.Arithmetic.{positive_is, negative_is, small_fits}
 use Rattle.lower.proofs.merging.States.{element}
@@ -205,11 +206,8 @@ module _ (setting : Setting) (l : Layout) (procs : List Proc) (casts : List Type
       begins : Walking setting l procs casts m measured placed s places objects store number here base operator_leaves
           H total wide dear te
       begins =
-          by_law setting l procs casts m s (total ≡ Stuck) (stuck_or_not total)
-          (Comes setting l procs casts m measured placed s places objects store number here base operator_leaves H
-          total)
-          (comes_stands setting l procs casts m measured placed s places objects store number here base operator_leaves
-          H total) deep wide dear (omega arith) te (stands_at which wv i) refl
+          begun_by setting l procs casts m measured placed s places objects store number here base operator_leaves H
+          total deep wide dear (omega arith) te (stands_at which wv i) refl
           (λ some.
           let z = elements_are_read ending_of setting l first s refl is_ready tallest objects rt_filled (λ b. H) x wv
           hv a d behind cell_words stands_here which i word.0 other word.1 like.0 like.2 total refl some in
@@ -300,29 +298,37 @@ module _ (setting : Setting) (l : Layout) (procs : List Proc) (casts : List Type
       (omega arith) 0 number)
       (RunLoc cell true) index wi (wv, refl, c) ci
 
+  -- a value in a wrapper stands at an address, seen through its proxy
+  proxied : (v : FlatValue Coercion) (wrapper : Coercion) (wv : ℕ) → C (RunWrap v wrapper) wv
+      → (a : ℕ) × Like setting l procs places objects v (Solid a) × Carries l objects (Proxied a wrapper) wv
+  proxied v wrapper wv c =
+      let seen = like_of setting l procs places objects placed (heap_of s) here.filled (RunWrap v wrapper) wv c in
+      (seen.1.0, seen.1.2, subst (λ m. Carries l objects m wv) seen.1.1 seen.2)
+
+  -- what is read of it is cast by a part of the proxy's coercion
+  behind_it : (a : ℕ) (wrapper : Coercion) (wv : ℕ) → Carries l objects (Proxied a wrapper) wv → (d : Coercion)
+      → cell_coercion 0 wrapper ≡ Some d
+      → (cell_behind 0 (Proxied a wrapper) ≡ Some (a, d)) × IsNormal (rows_of l.types) d
+  behind_it a wrapper wv carries d e =
+      (ap (λ o. option_map (λ x. (a, x)) o) e, cell_part_normal (rows_of l.types) wrapper 0 d carries.5.normal e)
+
   wrapped_vector : (vec : FlatValue Coercion) (wrapper : Coercion) (index : FlatValue Coercion) (wv wi : ℕ)
       → C (RunWrap vec wrapper) wv → C index wi → Does (reads_at 1 wv wi) (turn (RunWrap vec wrapper ∷ index ∷ []) base)
       0 number
   wrapped_vector vec wrapper index wv wi c ci = by_part (cell_coercion 0 wrapper) refl
     where
-      seen : (m : Merged ℕ) × Like setting l procs places objects (RunWrap vec wrapper) m × Carries l objects m wv
-      seen = like_of setting l procs places objects placed (heap_of s) here.filled (RunWrap vec wrapper) wv c
-
       by_part : (o : Option Coercion) → cell_coercion 0 wrapper ≡ o
           → Does (reads_at 1 wv wi) (on_some o (λ part. On (Return index)
           (PrimFrame VectorRef (vec ∷ []) ∷ CastFrame part ∷ base) store s.world)) 0 number
       by_part None e = (0, refl)
       by_part (Some d) e =
-          let a = seen.1.0 in
-          let carries : Carries l objects (Proxied a wrapper) wv =
-          subst (λ m. Carries l objects m wv) seen.1.1 seen.2 in
-          let behind : cell_behind 0 (Proxied a wrapper) ≡ Some (a, d) = ap (λ o. option_map (λ x. (a, x)) o) e in
-          let normal = cell_part_normal (rows_of l.types) wrapper 0 d carries.5.normal e in
+          let p = proxied vec wrapper wv c in
+          let b = behind_it p.0 wrapper wv p.2 d e in
           goes_on 1 wv wi (Return index) (PrimFrame VectorRef (vec ∷ []) ∷ CastFrame d ∷ base) tt refl refl number
-          (by_value (Proxied a wrapper) wv a carries refl (CastFrame d ∷ base) 896 (number + 0)
+          (by_value (Proxied p.0 wrapper) wv p.0 p.2 refl (CastFrame d ∷ base) 896 (number + 0)
           (λ cell values in_store c i v got.
-          cast_after true cell values in_store a c (Proxied a wrapper) wv carries d behind normal 1 refl i v got 896
-          (number + 0)) vec index wi seen.1.2 ci)
+          cast_after true cell values in_store p.0 c (Proxied p.0 wrapper) wv p.2 d b.0 b.1 1 refl i v got 896
+          (number + 0)) vec index wi p.1 ci)
 
   -- three operands are none of this operator's
   too_many : (cell : ℕ) (index x : FlatValue Coercion) (more : List (FlatValue Coercion))
@@ -384,25 +390,19 @@ module _ (setting : Setting) (l : Layout) (procs : List Proc) (casts : List Type
       → Does (reads_at 0 wv 0) (box_turn (RunWrap box wrapper ∷ []) base) 0 number
   wrapped_box box wrapper wv c = by_part (cell_coercion 0 wrapper) refl
     where
-      seen : (m : Merged ℕ) × Like setting l procs places objects (RunWrap box wrapper) m × Carries l objects m wv
-      seen = like_of setting l procs places objects placed (heap_of s) here.filled (RunWrap box wrapper) wv c
-
       by_part : (o : Option Coercion) → cell_coercion 0 wrapper ≡ o
           → Does (reads_at 0 wv 0) (on_some o
           (λ part. On (Return box) (PrimFrame Unbox [] ∷ CastFrame part ∷ base) store
           s.world)) 0 number
       by_part None e = (0, refl)
       by_part (Some d) e =
-          let a = seen.1.0 in
-          let carries : Carries l objects (Proxied a wrapper) wv =
-          subst (λ m. Carries l objects m wv) seen.1.1 seen.2 in
-          let behind : cell_behind 0 (Proxied a wrapper) ≡ Some (a, d) = ap (λ o. option_map (λ x. (a, x)) o) e in
-          let normal = cell_part_normal (rows_of l.types) wrapper 0 d carries.5.normal e in
+          let p = proxied box wrapper wv c in
+          let b = behind_it p.0 wrapper wv p.2 d e in
           goes_on 0 wv 0 (Return box) (PrimFrame Unbox [] ∷ CastFrame d ∷ base) tt refl refl number
-          (box_value wv a (CastFrame d ∷ base) 896 (number + 0)
+          (box_value wv p.0 (CastFrame d ∷ base) 896 (number + 0)
           (λ cell values in_store c v got.
-          cast_after false cell values in_store a c (Proxied a wrapper) wv carries d behind normal 0 refl 0 v got 896
-          (number + 0)) box seen.1.2)
+          cast_after false cell values in_store p.0 c (Proxied p.0 wrapper) wv p.2 d b.0 b.1 0 refl 0 v got 896
+          (number + 0)) box p.1)
 
   unboxes_for : (box : FlatValue Coercion) (wrapper : Coercion) (rest : List (FlatValue Coercion)) (ws : List ℕ)
       → Cs (RunWrap box wrapper ∷ rest) ws
@@ -471,12 +471,9 @@ module _ (setting : Setting) (l : Layout) (procs : List Proc) (casts : List Type
   length_wrapped : (vec : FlatValue Coercion) (wrapper : Coercion) (wv : ℕ) → C (RunWrap vec wrapper) wv
       → Does (reads_at 2 wv 0) (length_turn (RunWrap vec wrapper ∷ []) base) 0 number
   length_wrapped vec wrapper wv c =
-      let seen = like_of setting l procs places objects placed (heap_of s) here.filled (RunWrap vec wrapper) wv c in
-      let a = seen.1.0 in
-      let carries : Carries l objects (Proxied a wrapper) wv =
-      subst (λ m. Carries l objects m wv) seen.1.1 seen.2 in
+      let p = proxied vec wrapper wv c in
       goes_on 2 wv 0 (Return vec) (PrimFrame VectorLength [] ∷ base) tt refl refl number
-      (length_value (Proxied a wrapper) wv a carries refl 896 (number + 0) vec seen.1.2)
+      (length_value (Proxied p.0 wrapper) wv p.0 p.2 refl 896 (number + 0) vec p.1)
 
   measures_for : (vs : List (FlatValue Coercion)) (ws : List ℕ) → Cs vs ws
       → Does (reads_at 2 (at_or_zero ws 0) 0) (length_turn vs base) 0 number

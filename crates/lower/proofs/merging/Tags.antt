@@ -42,6 +42,7 @@ use Rattle.lower.specs.CarriedValues.{CarriedIn}
 use Rattle.lower.specs.Emit.{cast_word}
 use Rattle.lower.specs.MergedMeaning.{merged_meaning, MergedCasts}
 use Rattle.lower.specs.Keeping.{FitsMeasures}
+use Rattle.lower.specs.SchemeLaws.{Walks}
 use Rattle.lower.specs.SchemeLaws.{Here, OnWay, After, Serves, GivesInPlace, CastsInPlace, Aim}
 use Rattle.lower.proofs.heap.Objects.{none_some, same_some, found_within, dyn_header}
 use Rattle.lower.proofs.merging.Casts.{row_of}
@@ -202,6 +203,11 @@ module _ (setting : Setting) (l : Layout) (procs : List Proc) (casts : List Type
     asked = omega arith;
   }
 
+  -- a turn without a step, with so much left
+  at_once : (X : ℕ → LowState → Type 0) (asks credit left n n' : ℕ) → left ≤ credit → X left s
+      → Walks merged_meaning setting l procs casts m s asks credit n n' X s
+  at_once X asks credit left n n' le x = (0, 0, left, omega (arith, le), omega arith, (omega arith, omega arith, x))
+
   -- into Dyn: in one turn, whatever the value
   put : (v : FlatValue Coercion) (w : ℕ) → C v w → (from : ℕ) (tag : Tag) → rows_of l.types from ≡ tag_row tag
       → from < length l.types → IsLow l (Inject Id from) → is_narrow w ≡ true
@@ -231,24 +237,8 @@ module _ (setting : Setting) (l : Layout) (procs : List Proc) (casts : List Type
         0,
         (
           refl,
-          (
-            0,
-            0,
-            896,
-            omega arith,
-            omega arith,
-            (
-              omega arith,
-              omega arith,
-              (
-                refl,
-                refl,
-                omega arith,
-                here_after (number + 0),
-                (w, dyn, high, ap is_dyn row ∙ no_dyn tag, carried),
-              ),
-            ),
-          ),
+          at_once _ _ _ 896 _ _ (omega arith)
+              (refl, refl, omega arith, here_after (number + 0), (w, dyn, high, ap is_dyn row ∙ no_dyn tag, carried)),
         ),
       )
       by false = (0, refl)
@@ -317,24 +307,8 @@ module _ (setting : Setting) (l : Layout) (procs : List Proc) (casts : List Type
       kept_so : After_by Id
       kept_so = (
         refl,
-        (
-          0,
-          0,
-          0 + open_cost.budget + 896,
-          omega arith,
-          omega arith,
-          (
-            omega arith,
-            omega arith,
-            (
-              refl,
-              refl,
-              omega arith,
-              here_after (number + 0 + 0),
-              subst (λ z. C u z) (sym known.1) carried.4,
-            ),
-          ),
-        ),
+        at_once _ _ _ (0 + open_cost.budget + 896) _ _ (omega arith)
+            (refl, refl, omega arith, here_after (number + 0 + 0), subst (λ z. C u z) (sym known.1) carried.4),
       )
 
   taken : (v : FlatValue Coercion) (w : ℕ) → C v w → (to label : ℕ) (tag : Tag) → rows_of l.types to ≡ tag_row tag

@@ -54,6 +54,11 @@ pub data OnVectors : PrimOp → Type 0 where
   OnSet : OnVectors VectorSet
   OnLength : OnVectors VectorLength
 
+-- and those on boxes
+pub data OnBoxes : PrimOp → Type 0 where
+  OnUnbox : OnBoxes Unbox
+  OnBoxSet : OnBoxes BoxSet
+
 module _ (program : Program) (typed : TypesStand program.l)
     (f : FlatState program.meaning.Cast) (places : List ℕ) (objects : List Object) (h : Heap)
     (filled : Filled program.meaning program.setting program.l program.number objects h)
@@ -282,17 +287,15 @@ module _ (program : Program) (typed : TypesStand program.l)
   module _ (u : FlatValue program.meaning.Cast) (cast : program.meaning.Cast)
       (others : List (FlatValue program.meaning.Cast)) (wrapped : values locals group os ≡ RunWrap u cast ∷ others)
     where
-      pub box_read : IsServed Unbox
-      box_read cost_is =
+      pub boxes_served : (op : PrimOp) → OnBoxes op → IsServed op
+      boxes_served _ OnUnbox cost_is =
           serves_wrapped Unbox program.serves.cells.read program.run.read 3 (λ ws. 0 ∷ at_or_zero ws 0 ∷ 0 ∷ [])
           (Number 0 ∷ source 0 ∷ Number 0 ∷ []) program.serves.cells.unboxes program.serves.cells.read_stands
           (λ ws. refl)
           (u, cast, others, wrapped) cost_is
           (λ new ws e. both_words _ _ _ _ refl (both_words _ _ _ _ (found_word new ws 0 e)
           (both_words _ _ _ _ refl refl))) u cast others wrapped (Load d (source 0) 8 Done) refl
-
-      pub box_written : IsServed BoxSet
-      box_written cost_is =
+      boxes_served _ OnBoxSet cost_is =
           serves_wrapped BoxSet program.serves.cells.write program.run.write 4
           (λ ws. 0 ∷ at_or_zero ws 0 ∷ 0 ∷ at_or_zero ws 1 ∷ []) (Number 0 ∷ source 0 ∷ Number 0 ∷ source 1 ∷ [])
           program.serves.cells.sets program.serves.cells.write_stands (λ ws. refl) (u, cast, others, wrapped) cost_is

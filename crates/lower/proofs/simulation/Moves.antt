@@ -77,7 +77,7 @@ use Rattle.lower.proofs.simulation.Parts.{part_served, dyn_part_served}
 use Rattle.lower.proofs.simulation.Applied.{call_served, all_plain_onto}
 use Rattle.lower.proofs.simulation.Resumed.{resumed}
 use Rattle.lower.proofs.simulation.Cells.{OnVectors, OnMake, OnRef, OnSet, OnLength}
-use Rattle.lower.proofs.simulation.Cells.{vectors_served, box_read, box_written}
+use Rattle.lower.proofs.simulation.Cells.{OnBoxes, OnUnbox, OnBoxSet, vectors_served, boxes_served}
 use Rattle.lower.proofs.simulation.Boxes.{box_made, box_read_here, box_written_here}
 use Rattle.lower.proofs.simulation.Operators.{one_operand, two_operands}
 use Rattle.cast_modes.specs.ValueSteps.{run_unbox_cell, run_writes_cell}
@@ -449,15 +449,18 @@ module _ (program : Program) (typed : TypesStand program.l) where
           abbrev OnValues : PrimOp → List Operand → List (FlatValue program.meaning.Cast) → Type 0
           OnValues op os vs = Placed op os (flat_operate program.procs (mode_of program) store world op vs frames)
 
-          -- a procedure of the scheme does it
-          in_wrapper : (op : PrimOp) (os : List Operand) (vs : List (FlatValue program.meaning.Cast))
-              → values locals group os ≡ vs
-              → Served program typed (fl (Give (Prim op os)))
-              (flat_operate program.procs (mode_of program) store world op (values locals group os) frames) 0 0
-              (At (perform program.run s (word_for program places objects s next) (Prim op os)
-              (code_for program places objects s next)))
-              → OnValues op os vs
-          in_wrapper op os vs e x = subst (λ vs. OnValues op os vs) e (as_served op os x)
+          -- a procedure of the scheme does it, where the first is a box in a wrapper
+          in_wrapper : (op : PrimOp) (os : List Operand) → OnBoxes op
+              → FitsHere s count size group depth locals words (Give (Prim op os))
+              → RestHere program places objects waiting s count size group depth frames next rests words
+              → (u : FlatValue program.meaning.Cast) (cast : program.meaning.Cast)
+              (others : List (FlatValue program.meaning.Cast)) → values locals group os ≡ RunWrap u cast ∷ others
+              → OnValues op os (RunWrap u cast ∷ others)
+          in_wrapper op os on fits rest u cast others e =
+              subst (λ vs. OnValues op os vs) e
+              (as_served op os (boxes_served program typed (fl (Give (Prim op os))) places objects h filled cells
+              waiting size rests words s count depth group locals op os next fits rest fits.few u cast others e op on
+              refl))
 
           as_placed : (op : PrimOp) (os : List Operand) (x : FlatAfter program.meaning.Cast)
               → Follows program (fl (Give (Prim op os))) x
@@ -511,9 +514,7 @@ module _ (program : Program) (typed : TypesStand program.l) where
               by_values : (vs : List (FlatValue program.meaning.Cast)) → values locals group os ≡ vs
                   → OnValues Unbox os vs
               by_values (RunWrap u c ∷ others) e =
-                  in_wrapper Unbox os (RunWrap u c ∷ others) e
-                  (box_read program typed (fl (Give (Prim Unbox os))) places objects h filled cells waiting size rests
-                  words s count depth group locals Unbox os next fits rest fits.few u c others e refl)
+                  in_wrapper Unbox os OnUnbox fits rest u c others e
               by_values (RunLoc cell false ∷ []) e = by_content (slice_get store cell) refl
                 where
                   one : (o : Operand) × (os ≡ o ∷ []) × (value locals group o ≡ RunLoc cell false)
@@ -548,9 +549,7 @@ module _ (program : Program) (typed : TypesStand program.l) where
               by_values : (vs : List (FlatValue program.meaning.Cast)) → values locals group os ≡ vs
                   → OnValues BoxSet os vs
               by_values (RunWrap u c ∷ others) e =
-                  in_wrapper BoxSet os (RunWrap u c ∷ others) e
-                  (box_written program typed (fl (Give (Prim BoxSet os))) places objects h filled cells waiting size
-                  rests words s count depth group locals BoxSet os next fits rest fits.few u c others e refl)
+                  in_wrapper BoxSet os OnBoxSet fits rest u c others e
               by_values (RunLoc cell false ∷ v ∷ []) e = by_content (slice_get store cell) refl
                 where
                   two : (o p : Operand) × (os ≡ o ∷ p ∷ []) × (value locals group o ≡ RunLoc cell false)

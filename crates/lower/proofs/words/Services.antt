@@ -32,22 +32,18 @@ pub heap_same : (t : LowState) (h : Heap) → t.memory ≡ h.memory → t.alloc 
     → heap_of t ≡ h
 heap_same t h m a n = rw (m, a, n) refl
 
+-- a source that is near or far, and a slot
+by_size : (near far : ℕ) → near ≤ 13 → far ≤ 13 → (b c : Bool)
+    → (if b then near else far) + 2 + (if c then 3 else 13) ≤ 28
+by_size near far x y true true = omega (arith, x)
+by_size near far x y true false = omega (arith, x)
+by_size near far x y false true = omega (arith, y)
+by_size near far x y false false = omega (arith, y)
+
 -- a return costs no more
 pub return_price : (procs : List Proc) (count : ℕ) (a : LowSource) → step_price procs count (Return a) ≤ 28
-return_price procs count (Word i) = by_size (nat_lt i 255) (nat_lt count 255)
-  where
-    by_size : (b c : Bool) → (if b then 1 else 13) + 2 + (if c then 3 else 13) ≤ 28
-    by_size true true = omega arith
-    by_size true false = omega arith
-    by_size false true = omega arith
-    by_size false false = omega arith
-return_price procs count (Number n) = by_size (nat_lt n 2048) (nat_lt count 255)
-  where
-    by_size : (b c : Bool) → (if b then 2 else 12) + 2 + (if c then 3 else 13) ≤ 28
-    by_size true true = omega arith
-    by_size true false = omega arith
-    by_size false true = omega arith
-    by_size false false = omega arith
+return_price procs count (Word i) = by_size 1 13 (omega arith) (omega arith) (nat_lt i 255) (nat_lt count 255)
+return_price procs count (Number n) = by_size 2 12 (omega arith) (omega arith) (nat_lt n 2048) (nat_lt count 255)
 
 module _ (setting : Setting) (P : LowState → Type 0) (Q : Goal) where
   -- P holds in each procedure that serves, above those that wait
@@ -94,6 +90,30 @@ module _ (setting : Setting) (P : LowState → Type 0) (Q : Goal) where
 
   module _ {world : WorldState} {h : Heap} {waiting : List Waiting} {size : ℕ}
       (calm : Calm setting P Q size waiting world h) {rests : List Code} {locals : Locals} where
+    -- a call enters the procedure, with a credit that is left behind the call, or may be paid besides
+    calls_in : {d number : ℕ} {args : List LowSource} {k : Code} (n : ℕ) (ws : List ℕ) (p : Proc) (credit : ℕ)
+        → words_of locals args ≡ Some ws → StandsAs setting number p n → length ws ≡ n
+        → credit ≤ code_price setting.procs size k + codes_price setting.procs size rests + Q.extra
+        → By setting P Q.holds Q.floor credit
+        (at world h (waiting_for d size rests locals k ∷ waiting) p.words [] (bind 0 ws no_locals) p.code)
+        → Comes setting P Q (at world h waiting size rests locals (Call d number args k))
+    calls_in {d = d} {number = number} {args = args} {k = k} n ws p credit e stands long le c =
+        let first = behind setting size rests (Call d number args k) k in
+        by_go setting P Q.holds Q.floor credit
+        (left_of setting (at world h waiting size rests locals (Call d number args k)) + Q.extra)
+        (at world h waiting size rests locals (Call d number args k))
+        (at world h (waiting_for d size rests locals k ∷ waiting) p.words [] (bind 0 ws no_locals) p.code)
+        (let there = stands.there in
+        let few = taken setting number n p ws stands long in
+        rw (e, there, few) refl) (enough (step_price setting.procs size (Call d number args k))
+        (left_of setting (at world h waiting size rests locals (Call d number args k))) Q.extra
+        (code_price setting.procs size k + codes_price setting.procs size rests) credit le first)
+        (calm rests locals (Call d number args k)) c
+      where
+        enough : (first start extra after credit : ℕ) → credit ≤ after + extra → first + after ≤ start
+            → first + credit ≤ start + extra
+        enough first start extra after credit p q = omega (arith, p, q)
+
     -- a procedure that changes nothing answers a word
     pub answered_by : {d number : ℕ} {args : List LowSource} {k : Code} (n : ℕ) (ws : List ℕ) (p : Proc)
         (w most price : ℕ)
@@ -107,16 +127,7 @@ module _ (setting : Setting) (P : LowState → Type 0) (Q : Goal) where
         c =
         let s = at world h (waiting_for d size rests locals k ∷ waiting) size rests locals k in
         let after = left_of setting (at world h waiting size rests (set_local d w locals) k) in
-        let first = behind setting size rests (Call d number args k) k in
-        by_go setting P Q.holds Q.floor (price + (28 + (after + 0)))
-        (left_of setting (at world h waiting size rests locals (Call d number args k)) + Q.extra)
-        (at world h waiting size rests locals (Call d number args k))
-        (at world h (waiting_for d size rests locals k ∷ waiting) p.words [] (bind 0 ws no_locals) p.code)
-        (let there = stands.there in
-        let few = taken setting number n p ws stands long in
-        rw (e, there, few) refl) (enough (step_price setting.procs size (Call d number args k))
-        (left_of setting (at world h waiting size rests locals (Call d number args k))) Q.extra after price le first)
-        (calm rests locals (Call d number args k))
+        calls_in n ws p (price + (28 + (after + 0))) e stands long (omega (arith, le))
         (by_then setting P Q.holds Q.floor (Quiet s) (Returns w s)
         (λ t q. quiet_calm world h (waiting_for d size rests locals k ∷ waiting) serving t q.waiting q.memory q.alloc
         q.words q.world q.small) answers.0 price (28 + (after + 0))
@@ -130,10 +141,6 @@ module _ (setting : Setting) (P : LowState → Type 0) (Q : Goal) where
         r.quiet.small r.quiet.world r.quiet.waiting r.code r.is lt
         (subst (λ x. By setting P Q.holds Q.floor (after + 0) (at world x waiting size rests (set_local d w locals) k))
         (sym same) c)))
-      where
-        enough : (first start extra after cost : ℕ) → cost + 28 ≤ extra → first + after ≤ start
-            → first + (cost + (28 + (after + 0))) ≤ start + extra
-        enough first start extra after cost p q = omega (arith, p, q)
 
     -- a procedure that changes nothing traps
     pub traps_by : {d number : ℕ} {args : List LowSource} {k : Code} (n : ℕ) (ws : List ℕ) (p : Proc) (trap : Trap)
@@ -151,22 +158,9 @@ module _ (setting : Setting) (P : LowState → Type 0) (Q : Goal) where
         least go =
         let s = at world h (waiting_for d size rests locals k ∷ waiting) size rests locals k in
         let after = code_price setting.procs size k + codes_price setting.procs size rests in
-        let first = behind setting size rests (Call d number args k) k in
-        by_go setting P Q.holds Q.floor (price + after)
-        (left_of setting (at world h waiting size rests locals (Call d number args k)) + Q.extra)
-        (at world h waiting size rests locals (Call d number args k))
-        (at world h (waiting_for d size rests locals k ∷ waiting) p.words [] (bind 0 ws no_locals) p.code)
-        (let there = stands.there in
-        let few = taken setting number n p ws stands long in
-        rw (e, there, few) refl) (enough (step_price setting.procs size (Call d number args k))
-        (left_of setting (at world h waiting size rests locals (Call d number args k))) Q.extra after price le first)
-        (calm rests locals (Call d number args k))
+        calls_in n ws p (price + after) e stands long (omega (arith, le))
         (by_then setting P Q.holds Q.floor (Quiet s) (TrapsNext ending_of setting trap s)
         (λ t q. quiet_calm world h (waiting_for d size rests locals k ∷ waiting) serving t q.waiting q.memory q.alloc
         q.words q.world q.small) traps.0 price after
         (at world h (waiting_for d size rests locals k ∷ waiting) p.words [] (bind 0 ws no_locals) p.code) least traps.3
         traps.2 (λ t r. by_now setting P Q.holds Q.floor after t least (go t r)))
-      where
-        enough : (first start extra after cost : ℕ) → cost ≤ extra → first + after ≤ start
-            → first + (cost + after) ≤ start + extra
-        enough first start extra after cost p q = omega (arith, p, q)
