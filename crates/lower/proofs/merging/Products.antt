@@ -1,5 +1,5 @@
 -- The merged scheme's products and quotients are answered, wherever its procedures stand in a program.
-use Rattle.std.proofs.Common.{◌≡◌, ℕ, zero, suc, ◌+◌, ◌<◌, true, List, [], ◌∷◌, Some, refl, subst, ◌∙◌, ap, arith}
+use Rattle.std.proofs.Common.{◌≡◌, ℕ, suc, ◌+◌, List, Some, refl, ◌∙◌, ap, arith}
 use Rattle.std.proofs.Common.{slice_get}
 use Rattle.low_ir.specs.Run.{Setting}
 use Rattle.rt_refs.specs.Products.{product_loop, multiply}

@@ -1,15 +1,15 @@
 -- The program over words that is made with a scheme follows the numbered procedures wherever it is loaded, within their
 -- account.
-use Rattle.std.proofs.Common.{◌≡◌, ℕ, zero, suc, ◌<◌, ◌≤◌, true, List, [], ◌∷◌, ◌++◌, length, map, Some, refl, sym}
+use Rattle.std.proofs.Common.{◌≡◌, ℕ, zero, suc, ◌<◌, true, List, [], ◌∷◌, ◌++◌, length, map, Some, refl, sym}
 use Rattle.std.proofs.Common.{ap, ◌∙◌, subst, slice_get, arith}
-use Rattle.std.specs.Prelude.{◌&&◌, ◌%◌, nat_lt, All}
+use Rattle.std.specs.Prelude.{◌&&◌, ◌%◌, nat_lt}
 use Rattle.std.proofs.lemmas.Bool.{and_parts}
 use Rattle.std.proofs.lemmas.List.{length-map}
 use Rattle.grift_base.specs.Types.{TypeRow, TypeRows, row_at}
 use Rattle.run_laws.specs.Accounts.{FollowsWithin}
 use Rattle.run_laws.specs.Machines.{run}
 use Rattle.run_laws.specs.Meters.{metered, unspent}
-use Rattle.run_laws.specs.Runs.{Any, FollowsBy, NeverWrong}
+use Rattle.run_laws.specs.Runs.{Any, FollowsBy}
 use Rattle.machine_words.specs.Halts.{ending_of}
 use Rattle.machine_words.specs.Memory.{Memory, first_address}
 use Rattle.low_ir.specs.declared.programs.LowProgram.{LowProgram}
@@ -17,7 +17,6 @@ use Rattle.low_ir.specs.Prices.{low_price}
 use Rattle.low_ir.specs.Procedures.{Proc as LowProc}
 use Rattle.low_ir.specs.Run.{Setting, low_machine, low_start}
 use Rattle.low_ir.specs.Views.{procs_of}
-use Rattle.core_calc.specs.Account.{Measures}
 use Rattle.cast_modes.specs.Modes.{TypeCast}
 use Rattle.coercion_norm.specs.Held.{Layout}
 use Rattle.coercion_norm.proofs.Public.{bytes_of_all_words}
@@ -34,7 +33,7 @@ use Rattle.rt_cast.proofs.Public.{objects_stand_where_their_words_do}
 use Rattle.lower.specs.declared.served.Served.{Served}
 use Rattle.lower.specs.CastWays.{cast_ways}
 use Rattle.lower.specs.Following.{ServesEverywhere}
-use Rattle.lower.specs.Keeping.{FitsMeasures, KeepsFlat, PaysFlat}
+use Rattle.lower.specs.Keeping.{KeepsFlat, PaysFlat}
 use Rattle.lower.specs.Lowered.{entry_proc, low_proc, lowered}
 use Rattle.lower.specs.MadePrograms.{IsLoaded, MadeFollows, MadeKeeps, StaticsServe, told_in}
 use Rattle.lower.specs.Meanings.{Meaning, MeaningLaws}

@@ -1,4 +1,4 @@
-use Rattle.std.proofs.Common.{◌≡◌, ℕ, suc, length, Result, Ok, Err, ap, ◌∙◌, subst, sym}
+use Rattle.std.proofs.Common.{ℕ, suc, length, Result, Ok, Err, ap, ◌∙◌, subst, sym}
 use Rattle.std.proofs.lemmas.List.{length-map}
 use Rattle.std.specs.Prelude.{IfOk}
 use Rattle.grift_base.specs.declared.words.Statics.{Statics}
