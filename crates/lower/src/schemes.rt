@@ -1,10 +1,11 @@
 // Schemes: what stands in memory for casts, and which procedures serve.
 
-ghost use Rattle.std.specs.Prelude.{ℕ, suc, true, List, Some, All, IfOk, length};
-ghost use Rattle.std.specs.Prelude.{◌≡◌, ◌<◌, ◌≤◌, ◌%◌, ◌^◌};
+ghost use Rattle.std.specs.Prelude.{ℕ, suc, true, List, [], Some, All, IfOk, length};
+ghost use Rattle.std.specs.Prelude.{◌≡◌, ◌<◌, ◌≤◌, ◌%◌, ◌^◌, ◌++◌};
 ghost use Rattle.grift_base.specs.Types.{TypeRow, TypeRows, row_at};
 ghost use Rattle.grift_base.specs.declared.words.Statics.{Statics};
 ghost use Rattle.machine_words.specs.declared.TheConstants.{FIRST_ADDRESS};
+ghost use Rattle.type_graph.specs.Rows.{row_of};
 ghost use Rattle.coercion_norm.specs.declared.cast_rows.CastRow.{CastRow};
 ghost use Rattle.coercion_norm.specs.CoercionTables.{FitsTypes};
 ghost use Rattle.coercion_norm.specs.Held.{Layout};
@@ -27,15 +28,16 @@ ghost use Rattle.lower.specs.Sets.{GiveUpNowhere, ServesAnywhere, numbers_of, wi
 use crate::casts::cast_ways;
 use crate::copies::push_copies;
 use crate::lowering::lowered;
-use crate::served::{CastWays, ProcSet, Served};
+use crate::served::{ProcSet, Served};
 use coercion_norm::cast_rows::CastRows;
 use coercion_norm::tables::CoercionTable;
 use flat_ir::programs::{FlatProcs, FlatProgram};
 use grift_base::lists::OutOfMemory;
 use grift_base::words::{Statics, WordList};
-use low_ir::programs::LowProgram;
+use low_ir::programs::{LowProcs, LowProgram};
 use machine_words::FIRST_ADDRESS;
 use std::alloc::Global;
+use type_graph::rows::Row;
 use type_graph::tables::TypeTable;
 
 // No program has more procedures than this in front of those that serve.
@@ -78,8 +80,8 @@ pub trait Scheme {
             (layout self.now types.now table.now.nodes casts.now start statics region)) };
 
     /// The procedures, numbered from `first` on, 64 at most, the last two of which are those of products and quotients.
-    /// Wherever they stand in a program, they are closed there, and take what they are handed. None of them gives up for
-    /// want of room: only a request or a frame that doesn't fit does.
+    /// Wherever they stand in a program, they are closed there, and take what they are handed. None of them gives up
+    /// for want of room: only a request or a frame that doesn't fit does.
     fn procs(&self, alloc: Global, first: u32) -> Result<ProcSet, OutOfMemory>
         requires { first < 2 ^ 31 }
         ensures procs { IfOk result (λ set. procs_of set.procs ≡ procs_from self.now first) }
@@ -100,10 +102,13 @@ fn served_by(
     alloc: Global,
     set: &ProcSet,
     statics: &Statics,
-    ways: CastWays,
+    types: &TypeTable,
+    casts: &CastRows,
 ) -> Result<Served, OutOfMemory>
-    ensures { IfOk result (λ run. run ≡ with_casts (numbers_of set.now) statics.now.cast_at ways) }
+    ensures { IfOk result (λ run. run ≡ with_casts (numbers_of set.now) statics.now.cast_at
+        (cast_ways types.now (row_casts casts.now))) }
 {
+    let ways = cast_ways(alloc, types, casts)?;
     Ok(Served {
         cast: set.cast,
         project: set.project,
@@ -116,6 +121,26 @@ fn served_by(
         cast_at: WordList::from_slice(alloc, statics.cast_at.as_slice())?,
         ways,
     })
+}
+
+// The lowered procedures, and behind them those of a set.
+fn with_set(
+    alloc: Global,
+    set: &ProcSet,
+    statics: &Statics,
+    flat: &FlatProgram,
+    answer: &Row,
+    types: &TypeTable,
+    casts: &CastRows,
+) -> Result<LowProcs, OutOfMemory>
+    ensures { IfOk result (λ procs. procs_of procs ≡ lowered (with_casts (numbers_of set.now) statics.now.cast_at
+        (cast_ways types.now (row_casts casts.now))) (flat_procs_of flat.now.procs) flat.now.entry
+        (row_of answer.now) [] ++ procs_of set.now.procs) }
+{
+    let run = served_by(alloc, set, statics, types, casts)?;
+    let mut procs = lowered(alloc, &run, flat, answer)?;
+    push_copies(alloc, &mut procs, set.procs.as_slice())?;
+    Ok(procs)
 }
 
 // One more than the greatest number of 32 bits.
@@ -165,10 +190,8 @@ pub fn lower_over<S: Scheme>(
     }
     let entry = entry as u32;
     let set = scheme.procs(alloc, entry + 1)?;
-    let ways = cast_ways(alloc, types, casts)?;
-    let run = served_by(alloc, &set, &statics, ways)?;
-    let mut procs = lowered(alloc, &run, flat, types.row(flat.answer))?;
-    push_copies(alloc, &mut procs, set.procs.as_slice())?;
+    let answer = types.row(flat.answer);
+    let procs = with_set(alloc, &set, &statics, flat, answer, types, casts)?;
     Ok(LowProgram {
         procs,
         entry,

@@ -26,15 +26,15 @@ joined : (run : Served) (flat : List FlatProc) (entry : ℕ) (answer : TypeRow) 
 joined run flat entry answer set = append_assoc (map (low_proc run) flat) (entry_proc entry answer ∷ []) set
 
 -- the program of a scheme, told how it is come by
-module _ (numbers_from : ℕ → Served) (procs_from : ℕ → List Proc) (run given : Served) (words : List ℕ)
-    (ways : List CastWay) (flat : List FlatProc) (entry : ℕ) (told : TypeRow) (front more whole : List Proc) (first : ℕ)
-    (numbers : given ≡ numbers_from first) (procs : more ≡ procs_from first) (runs : run ≡ with_casts given words ways)
-    (before : front ≡ lowered run flat entry told []) (all : whole ≡ front ++ more) where
+module _ (numbers_from : ℕ → Served) (procs_from : ℕ → List Proc) (given : Served) (words : List ℕ)
+    (ways : List CastWay) (flat : List FlatProc) (entry : ℕ) (told : TypeRow) (more whole : List Proc) (first : ℕ)
+    (numbers : given ≡ numbers_from first) (procs : more ≡ procs_from first)
+    (all : whole ≡ lowered (with_casts given words ways) flat entry told [] ++ more) where
   comes_to : whole ≡ lowered (with_casts (numbers_from first) words ways) flat entry told (procs_from first)
   comes_to =
-      all ∙ (ap (λ ps. ps ++ more) before ∙ (ap (λ ps. lowered run flat entry told [] ++ ps) procs
-      ∙ (joined run flat entry told (procs_from first)
-      ∙ ap (λ r. lowered r flat entry told (procs_from first)) (runs ∙ ap (λ m. with_casts m words ways) numbers))))
+      let run = with_casts given words ways in
+      all ∙ (ap (λ ps. lowered run flat entry told [] ++ ps) procs ∙ (joined run flat entry told (procs_from first)
+      ∙ ap (λ m. lowered (with_casts m words ways) flat entry told (procs_from first)) numbers))
 
   pub program_is_lowered : (answer : TypeRow) (row : Option TypeRow) (count : ℕ) → row ≡ Some told
       → row ≡ Some answer → first ≡ suc count
