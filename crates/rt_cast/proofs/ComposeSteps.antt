@@ -209,6 +209,21 @@ module _ {V : Type 0} (walk : Walk V) where
           (ih (grind (arith, q, le))))
           (omega arith, omega arith, omega arith, let s = part_near (suc r) few in omega (arith, s, near))
 
+  -- the last part goes on with one code, and each before it with another
+  by_turn : {B : Budget} → (objects : List Object) (h : Heap) (fine : Fine walk.setting walk.l walk.around objects h)
+      (waiting : List Waiting) (rests : List Code) (locals : Locals) (on : Bool → Code) (n k : ℕ)
+      → word_of locals (Word 1) ≡ Some n → word_of locals (Word 2) ≡ Some k → (b : Bool) → (k == n) ≡ b
+      → ((rests : List Code) → Reached B (state 6 locals (on b) rests waiting h))
+      → Reached (More 1 0 0 13 B) (state 6 locals (either Eq (Word 1) (Word 2) (on true) (on false)) rests waiting h)
+  by_turn objects h fine waiting rests locals on n k is as_ true t c =
+      at_most walk
+      (if_true walk objects fine n k is as_ (turn k n true t) (c _))
+      (omega arith, omega arith, omega arith, omega arith)
+  by_turn objects h fine waiting rests locals on n k is as_ false t c =
+      at_most walk
+      (if_false walk objects fine n k is as_ (turn k n false t) (c _))
+      (omega arith, omega arith, omega arith, omega arith)
+
   -- the two words of a part in their order
   pub part_runs : {B : Budget} → (objects : List Object) (h : Heap) (fine : Fine walk.setting walk.l walk.around objects
       h) (waiting : List Waiting) (go : LowSource → LowSource → Code) (kind : Kind) (n k x y e : ℕ) (b : Bool)
@@ -217,45 +232,27 @@ module _ {V : Type 0} (walk : Walk V) where
       (in_order go (runs_back kind b)) rests waiting h)) → Reached (More 3 0 0 41 B)
       (state 6 (bind 0 (kind_number kind ∷ n ∷ k ∷
       x ∷ y ∷ e ∷ []) no_locals) (part_code go) [] waiting h)
-  part_runs objects h fine waiting go FunKind n k x y e true t c =
+  part_runs objects h fine waiting go FunKind n k x y e b t c =
       at_most walk
       (if_false walk objects fine 9 10 refl refl refl
       (if_true walk objects fine 9 9 refl refl refl
-      (if_true walk objects fine n k refl refl (turn k n true t) (c _))))
-      (omega arith, omega arith, omega arith, omega arith)
-  part_runs objects h fine waiting go FunKind n k x y e false t c =
-      at_most walk
-      (if_false walk objects fine 9 10 refl refl refl
-      (if_true walk objects fine 9 9 refl refl refl
-      (if_false walk objects fine n k refl refl (turn k n false t) (c _))))
+      (by_turn objects h fine waiting _ _ (λ q. in_order go (runs_back FunKind q)) n k refl refl b t c)))
       (omega arith, omega arith, omega arith, omega arith)
   part_runs objects h fine waiting go TupKind n k x y e b t c =
       at_most walk
       (if_true walk objects fine 10 10 refl refl refl (c _))
       (omega arith, omega arith, omega arith, omega arith)
-  part_runs objects h fine waiting go RefKind n k x y e true t c =
+  part_runs objects h fine waiting go RefKind n k x y e b t c =
       at_most walk
       (if_false walk objects fine 11 10 refl refl refl
       (if_false walk objects fine 11 9 refl refl refl
-      (if_true walk objects fine n k refl refl (turn k n true t) (c _))))
+      (by_turn objects h fine waiting _ _ (λ q. in_order go (runs_back RefKind q)) n k refl refl b t c)))
       (omega arith, omega arith, omega arith, omega arith)
-  part_runs objects h fine waiting go RefKind n k x y e false t c =
-      at_most walk
-      (if_false walk objects fine 11 10 refl refl refl
-      (if_false walk objects fine 11 9 refl refl refl
-      (if_false walk objects fine n k refl refl (turn k n false t) (c _))))
-      (omega arith, omega arith, omega arith, omega arith)
-  part_runs objects h fine waiting go VecKind n k x y e true t c =
+  part_runs objects h fine waiting go VecKind n k x y e b t c =
       at_most walk
       (if_false walk objects fine 12 10 refl refl refl
       (if_false walk objects fine 12 9 refl refl refl
-      (if_true walk objects fine n k refl refl (turn k n true t) (c _))))
-      (omega arith, omega arith, omega arith, omega arith)
-  part_runs objects h fine waiting go VecKind n k x y e false t c =
-      at_most walk
-      (if_false walk objects fine 12 10 refl refl refl
-      (if_false walk objects fine 12 9 refl refl refl
-      (if_false walk objects fine n k refl refl (turn k n false t) (c _))))
+      (by_turn objects h fine waiting _ _ (λ q. in_order go (runs_back VecKind q)) n k refl refl b t c)))
       (omega arith, omega arith, omega arith, omega arith)
 
   -- ---- compose
