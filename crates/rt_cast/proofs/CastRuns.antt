@@ -79,7 +79,7 @@ use Rattle.coercion_norm.specs.Coercions.{kind_of}
 use Rattle.std.proofs.Common.{◌⊎◌, sym, cond, nat_eq, not}
 use Rattle.std.specs.Prelude.{◌&&◌, ◌||◌, if◌then◌else◌}
 use Rattle.grift_base.specs.Types.{IntRow, BoolRow, UnitRow, DynRow, FunRow, TupleRow, RefRow, VectRow, is_dyn}
-use Rattle.rt_cast.proofs.Objects.{proxy_header, dyn_header, fail_header, inject_header, project_header}
+use Rattle.rt_cast.proofs.Objects.{proxy_header, proxy_read, dyn_header, fail_header, inject_header, project_header}
 use Rattle.rt_cast.specs.ComposeCodes.{cast_place, coerce_place, compose_place}
 
 small_kind : (kind : ObjectKind) → number_of kind < 256
@@ -422,7 +422,7 @@ module _ {V : Type 0} (walk : Walk V) (low : walk.l.tallest ≤ 65534) (A : Type
           (if_false walk objects fine (kind_number kind) 13 refl refl (no_middle kind 13 (inr (omega arith)))
           (if_false walk objects fine (kind_number kind) 14 refl refl (no_middle kind 14 (inr (omega arith)))
           (loads walk objects fine wv proxy_header (hv.0 ∷ hv.1 ∷ []) 0 proxy_header refl hv.2 refl refl refl
-          (computes walk objects fine proxy_header kind_mask 2 refl refl (kind_read 2 0 2 (omega arith)) refl
+          (computes walk objects fine proxy_header kind_mask (number_of Proxy) refl refl proxy_read refl
           (if_true walk objects fine 2 2 refl refl refl
           (loads walk objects fine wv proxy_header (hv.0 ∷ hv.1 ∷ []) 2 hv.1 refl hv.2 refl refl refl
           (calls walk objects fine (hv.1 ∷ wc ∷ []) (compose_proc walk.first) refl

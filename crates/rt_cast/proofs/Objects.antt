@@ -5,7 +5,9 @@ use Rattle.std.proofs.Common.{subst, arith, eqb-true}
 use Rattle.std.specs.Prelude.{slice_get}
 use Rattle.machine_words.specs.Memory.{Memory, store_bytes}
 use Rattle.machine_words.proofs.Public.{stored_outside, load_stored, load_other, load_same}
+use Rattle.low_ir.specs.Operations.{compute}
 use Rattle.low_ir.specs.Steps.{store_words}
+use Rattle.low_ir.specs.declared.code.WordOp.TheVariants.{And}
 use Rattle.object_layout.specs.declared.kinds.Kind.TheVariants.{Closure, Proxy, Dyn, Tuple as TupleKind, Boxed, Vector}
 use Rattle.object_layout.specs.declared.kinds.Kind.TheVariants.{Fail, Inject, Project}
 use Rattle.object_layout.specs.Kinds.{kind_number}
@@ -15,6 +17,8 @@ use Rattle.coercion_norm.specs.Objects.{words_of, words_of_all}
 use Rattle.coercion_norm.proofs.Public.{bytes_of_words, found_within}
 use Rattle.rt_cast.specs.Objects.{HasWord, HoldsWords}
 use Rattle.rt_cast.specs.Objects.{HoldsObject, Holds}
+use Rattle.rt_cast.specs.Words.{kind_mask}
+use Rattle.rt_cast.proofs.HeaderNumbers.{kind_read}
 
 pub none_some : {A B : Type 0} {a : A} → None ≡ Some a → B
 none_some {a = a} e = absurd (clash e)
@@ -225,6 +229,9 @@ vector_header count = header (kind_number Vector) 0 count
 
 abbrev pub proxy_header : ℕ
 proxy_header = header (kind_number Proxy) 0 2
+
+pub proxy_read : compute And proxy_header kind_mask ≡ kind_number Proxy
+proxy_read = kind_read (kind_number Proxy) 0 2 (omega arith)
 
 abbrev pub dyn_header : ℕ
 dyn_header = header (kind_number Dyn) 0 2

@@ -37,6 +37,8 @@ use Rattle.rt_cast.specs.DynWords.{tag_of, small_dyn, IsDynBy}
 use Rattle.rt_cast.proofs.DynWords.{small_is, tag_read, no_tag}
 use Rattle.rt_cast.proofs.IntoDyn.{untagged_there, kind_there, put_into_dyn}
 use Rattle.low_ir.specs.Operations.{compute}
+use Rattle.object_layout.specs.declared.kinds.Kind.TheVariants.{Proxy}
+use Rattle.object_layout.specs.Kinds.{kind_number as number_of}
 use Rattle.rt_cast.specs.PartCodes.{either}
 use Rattle.rt_cast.specs.Procs.{cast_proc, project_proc}
 use Rattle.rt_cast.specs.States.{Grows, Heap, Fine, st}
@@ -55,7 +57,7 @@ use Rattle.rt_cast.proofs.ComposeSteps.{type_there, type_numbers}
 use Rattle.rt_cast.proofs.CastRuns.{rebased, after, GoesOn, whole_above, no_higher, carried_still, carried_small}
 use Rattle.rt_cast.proofs.CastRuns.{by_either}
 use Rattle.rt_cast.proofs.CastDecisions.{low_of, by_inject, by_cast as decided_cast}
-use Rattle.rt_cast.proofs.Objects.{proxy_header, dyn_header, tuple_header}
+use Rattle.rt_cast.proofs.Objects.{proxy_header, proxy_read, dyn_header, tuple_header}
 use Rattle.rt_cast.specs.ComposeCodes.{cast_place, project_place}
 
 -- ---- lists and rows
@@ -326,7 +328,7 @@ module _ {V : Type 0} (walk : Walk V) (low : walk.l.tallest ≤ 65534) (A : Type
           (if_false walk objects fine 1 0 refl refl refl
           (computes walk objects fine k 3 (8 * k) refl refl (let z = w.end in omega (arith, z)) refl
           (loads walk objects fine wv proxy_header ws2 0 proxy_header refl hv.2 refl refl refl
-          (computes walk objects fine proxy_header kind_mask 2 refl refl (kind_read 2 0 2 (omega arith)) refl
+          (computes walk objects fine proxy_header kind_mask (number_of Proxy) refl refl proxy_read refl
           (if_true walk objects fine 2 2 refl refl refl
           (loads walk objects fine wv proxy_header ws2 1 hv.0 refl hv.2 refl refl refl
           (computes walk objects fine hv.0 (8 * k) (hv.0 + 8 * k) refl refl (let z = w.end in omega (arith, z)) refl

@@ -24,7 +24,7 @@ pub use Rattle.rt_cast.proofs.Objects.{none_some, same_some, holds_found, word_f
 pub use Rattle.rt_cast.proofs.Objects.{words_split, bytes_below, AreSmall, stored_words, holds_append}
 pub use Rattle.rt_cast.proofs.Objects.{word_same, words_same, object_same, holds_same, holds_stored}
 pub use Rattle.rt_cast.proofs.Objects.{closure_header, tuple_header, box_header, vector_header, proxy_header}
-pub use Rattle.rt_cast.proofs.Objects.{dyn_header}
+pub use Rattle.rt_cast.proofs.Objects.{proxy_read, dyn_header}
 pub use Rattle.rt_cast.proofs.HeaderNumbers.{lt_true, lt_false, eq_true, eq_false, kind_read, count_read}
 -- the call of cast, whose decisions the merged mode makes, and what is held and carried still behind it:
 pub use Rattle.rt_cast.proofs.Middles.{held_still}
