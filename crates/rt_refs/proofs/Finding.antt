@@ -9,6 +9,8 @@ use Rattle.machine_words.specs.Halts.{Halt, Lacks, Region}
 use Rattle.low_ir.specs.Procedures.{Code}
 use Rattle.low_ir.specs.Steps.{Locals}
 use Rattle.low_ir.specs.Run.{Setting, Waiting, LowState}
+use Rattle.object_layout.specs.declared.kinds.Kind.TheVariants.{Proxy}
+use Rattle.object_layout.specs.Kinds.{kind_number as number_of}
 use Rattle.coercion_norm.specs.Coercions.{Coercion, Coercions, Id, Fail, Middle, Inject, Project}
 use Rattle.coercion_norm.specs.declared.middles.MiddleKind.{MiddleKind as Kind}
 use Rattle.coercion_norm.specs.declared.middles.MiddleKind.TheVariants.{Fun as FunKind, Tup as TupKind}
@@ -31,7 +33,7 @@ use Rattle.rt_refs.specs.CellCodes.{find_cell, take_part, test_index, trap_index
 use Rattle.rt_refs.specs.CellLaws.{cell_behind, under, CellStands, TrapsAt}
 use Rattle.rt_refs.proofs.Calling.{mapped, part_held, part_low}
 use Rattle.rt_refs.proofs.CellSteps.{ends_branch}
-use Rattle.rt_cast.proofs.Public.{proxy_header}
+use Rattle.rt_cast.proofs.Public.{proxy_header, proxy_read}
 
 zero_more : (n : ℕ) → n ≡ n + 0
 zero_more n = omega arith
@@ -133,7 +135,7 @@ module _ {V : Type 0} (walk : Walk V) (low : walk.l.tallest ≤ 65534) (A : Type
         let ws2 = hv.0 ∷ hv.1 ∷ [] in
         at_most walk
         (loads walk objects fine wv proxy_header ws2 0 proxy_header wv_is hv.2 refl refl refl
-        (computes walk objects fine proxy_header kind_mask 2 refl refl (kind_read 2 0 2 (omega arith)) refl
+        (computes walk objects fine proxy_header kind_mask (number_of Proxy) refl refl proxy_read refl
         (if_true walk objects fine 2 2 refl refl refl
         (loads walk objects fine wv proxy_header ws2 2 hv.1 wv_is hv.2 refl refl refl
         (loads walk objects fine wv proxy_header ws2 1 hv.0 wv_is hv.2 refl refl refl

@@ -39,8 +39,10 @@ use Rattle.rt_cast.specs.MergedValues.{Base, Solid, Proxied, InDyn}
 use Rattle.rt_refs.proofs.CellSteps.{ends_branch}
 use Rattle.std.proofs.Common.{subst, ◌<◌, ◌∙◌}
 use Rattle.low_ir.specs.Steps.{set_local}
+use Rattle.object_layout.specs.declared.kinds.Kind.TheVariants.{Proxy}
+use Rattle.object_layout.specs.Kinds.{kind_number as number_of}
 use Rattle.rt_refs.proofs.Finding.{one_kind, behind_under, found, part_taken, index_traps}
-use Rattle.rt_cast.proofs.Public.{proxy_header}
+use Rattle.rt_cast.proofs.Public.{proxy_header, proxy_read}
 use Rattle.rt_cast.specs.ComposeCodes.{cast_place}
 
 module _ {V : Type 0} (reading : Halt → Ending V) (setting : Setting) (l : Layout) (first : ℕ) (s : LowState)
@@ -200,7 +202,7 @@ module _ {V : Type 0} (reading : Halt → Ending V) (setting : Setting) (l : Lay
       at_most q
       (if_true q objects fine_here 2 2 refl refl refl
       (loads q objects fine_here wv proxy_header ws2 0 proxy_header refl hv.2 refl refl refl
-      (computes q objects fine_here proxy_header kind_mask 2 refl refl (kind_read 2 0 2 (omega arith)) refl
+      (computes q objects fine_here proxy_header kind_mask (number_of Proxy) refl refl proxy_read refl
       (if_true q objects fine_here 2 2 refl refl refl
       (loads q objects fine_here wv proxy_header ws2 1 hv.0 refl hv.2 refl refl refl
       (loads_at q objects fine_here hv.0 head0 refl (at_header hv.0 here) refl
