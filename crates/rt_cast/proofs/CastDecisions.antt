@@ -26,8 +26,8 @@ no_stuck : {A : Type 0} {B : Type 0} (r : Outcome A) → (r ≡ Stuck → ⊥) �
 no_stuck r some e = absurd (some (sym e))
 
 -- what follows a coercion without projection or injection is no projection, where what follows is none
-pub after_no_project : (next : Coercion → Coercion → Coercion) (c d : Coercion) → is_plain c ≡ true → is_project d ≡ false
-    → is_project (after_inner next c d) ≡ false
+pub after_no_project : (next : Coercion → Coercion → Coercion) (c d : Coercion) → is_plain c ≡ true
+    → is_project d ≡ false → is_project (after_inner next c d) ≡ false
 after_no_project next Id d p e = e
 after_no_project next (Fail label) d p e = refl
 after_no_project next (Middle kind parts) Id p e = refl
