@@ -1,6 +1,6 @@
 -- The forms of the pass, by what their elements are.
 use Rattle.std.proofs.Common.{◌≡◌, ℕ, Bool, true, false, List, Some, None, refl, ap, sym, ◌∙◌}
-use Rattle.std.specs.Prelude.{pos, negsuc, nat_eq, Option, Result, Ok, Err}
+use Rattle.std.specs.Prelude.{pos, nat_eq, Option, Result, Ok, Err}
 use Rattle.std.specs.Option.{option_map}
 use Rattle.grift_base.specs.declared.refusals.FrontFault.{FrontFault}
 use Rattle.grift_base.specs.declared.refusals.FrontFault.TheVariants.{Refused, OutOfMemory}
@@ -11,11 +11,11 @@ use Rattle.surface_syntax.specs.declared.words.Word.TheVariants.{Lambda, Let, Le
 use Rattle.surface_syntax.specs.declared.words.Word.TheVariants.{TupleProj, Define, Colon, Arrow, Operator}
 use Rattle.surface_syntax.specs.declared.operands.Head.TheVariants.{Operator as OperatorHead}
 use Rattle.surface_syntax.specs.Words.{is_arrow_word, operand_count}
-use Rattle.surface_syntax.specs.Marked.{Sexpr, Sexprs, number, truth_value, word, name, list, end, ◌▹◌, place}
+use Rattle.surface_syntax.specs.Marked.{Sexpr, Sexprs, number, word, name, list, end, ◌▹◌, place}
 use Rattle.surface_syntax.specs.Marked.{reserved_at, how_many}
 use Rattle.surface_syntax.specs.Trees.{TypeExpr, Param, ExprAt, LambdaNode, AscribeNode}
 use Rattle.surface_syntax.specs.Walking.{Walked, Reads, Refuses, followed_by, test, binder, colon}
-use Rattle.surface_syntax.specs.Walk.{walk_type, walk_param_list}
+use Rattle.surface_syntax.specs.Walk.{Bound, walk_type, walk_param_list}
 use Rattle.surface_syntax.specs.TopWalk.{has_body}
 use Rattle.surface_syntax.specs.Pass.{Parsing, ParsedRange, then_with, paired, parse, parse_list, parse_lambda}
 use Rattle.surface_syntax.specs.Pass.{parse_binding, parse_member, parse_lambda_form, parse_range}
@@ -56,17 +56,16 @@ plain_test false p a next names = refl
 
 -- a name and its written type
 plain_typed : {A : Type 0} (x : Walked (List ℕ)) (c : Walked Bool) (t : Walked TypeExpr)
-    (next : List ℕ → TypeExpr → Parsing A) (after : List ℕ × Option TypeExpr → Parsing A) (names : ℕ)
-    → ((bytes : List ℕ) (type : TypeExpr) → after (bytes, Some type) ≡ next bytes type)
+    (next : List ℕ × Option TypeExpr → Parsing A) (names : ℕ)
     → then_with (paired x names) (λ bytes names. then_with (paired c names) (λ done names.
-    then_with (paired t names) (λ type names. next bytes type names)))
+    then_with (paired t names) (λ type names. next (bytes, Some type) names)))
     ≡ then_with (paired (followed_by x (λ bytes. followed_by (followed_by c (λ done. followed_by t (λ type.
-    Reads (Some type)))) (λ type. Reads (bytes, type)))) names) after
+    Reads (Some type)))) (λ type. Reads (bytes, type)))) names) next
 unfolding then_with paired followed_by
-plain_typed (Refuses kind p) c t next after names e = refl
-plain_typed (Reads x) (Refuses kind p) t next after names e = refl
-plain_typed (Reads x) (Reads c) (Refuses kind p) next after names e = refl
-plain_typed (Reads x) (Reads c) (Reads t) next after names e = sym (ap (λ after. after names) (e x t))
+plain_typed (Refuses kind p) c t next names = refl
+plain_typed (Reads x) (Refuses kind p) t next names = refl
+plain_typed (Reads x) (Reads c) (Refuses kind p) next names = refl
+plain_typed (Reads x) (Reads c) (Reads t) next names = refl
 
 -- ---- lambdas
 
@@ -87,52 +86,14 @@ lambda_row p (ps ▹ rest) names = lambda_parted p ps rest names (has_body rest)
 pub behind_row : (p : Pos) (params : List Param) (ds : Sexprs) (names : ℕ)
     → parse_behind p params ds names ≡ behind_from p params ds names
 unfolding then_with paired followed_by
-behind_row p params end names = refl
-behind_row p params ((word q Lambda) ▹ rest) names = refl
-behind_row p params ((word q Let) ▹ rest) names = refl
-behind_row p params ((word q Letrec) ▹ rest) names = refl
-behind_row p params ((word q If) ▹ rest) names = refl
-behind_row p params ((word q Begin) ▹ rest) names = refl
-behind_row p params ((word q And) ▹ rest) names = refl
-behind_row p params ((word q Or) ▹ rest) names = refl
-behind_row p params ((word q Repeat) ▹ rest) names = refl
-behind_row p params ((word q Tuple) ▹ rest) names = refl
-behind_row p params ((word q TupleProj) ▹ rest) names = refl
-behind_row p params ((word q Define) ▹ rest) names = refl
 behind_row p params (word q Colon ▹ end) names = refl
 behind_row p params (word q Colon ▹ t ▹ body) names = refl
-behind_row p params ((word q Arrow) ▹ rest) names = refl
-behind_row p params ((word q (Operator o)) ▹ rest) names = refl
-behind_row p params ((number q n) ▹ rest) names = refl
-behind_row p params ((truth_value q b) ▹ rest) names = refl
-behind_row p params ((name q x t) ▹ rest) names = refl
-behind_row p params ((list q ds) ▹ rest) names = refl
+behind_row p params ds names = refl
 
 pub function_row : (s : Sexpr) (names : ℕ) → parse_lambda_form s names ≡ function_from s names
 unfolding then_with paired
-function_row (number r n) names = refl
-function_row (truth_value r b) names = refl
-function_row (word r w) names = refl
-function_row (name r x t) names = refl
-function_row (list r end) names = refl
 function_row (list r (word q Lambda ▹ rest)) names = lambda_row r rest names
-function_row (list r ((word q Let) ▹ rest)) names = refl
-function_row (list r ((word q Letrec) ▹ rest)) names = refl
-function_row (list r ((word q If) ▹ rest)) names = refl
-function_row (list r ((word q Begin) ▹ rest)) names = refl
-function_row (list r ((word q And) ▹ rest)) names = refl
-function_row (list r ((word q Or) ▹ rest)) names = refl
-function_row (list r ((word q Repeat) ▹ rest)) names = refl
-function_row (list r ((word q Tuple) ▹ rest)) names = refl
-function_row (list r ((word q TupleProj) ▹ rest)) names = refl
-function_row (list r ((word q Define) ▹ rest)) names = refl
-function_row (list r ((word q Colon) ▹ rest)) names = refl
-function_row (list r ((word q Arrow) ▹ rest)) names = refl
-function_row (list r ((word q (Operator o)) ▹ rest)) names = refl
-function_row (list r ((number q n) ▹ rest)) names = refl
-function_row (list r ((truth_value q b) ▹ rest)) names = refl
-function_row (list r ((name q x t) ▹ rest)) names = refl
-function_row (list r ((list q ds) ▹ rest)) names = refl
+function_row s names = refl
 
 -- ---- the forms of words
 
@@ -143,27 +104,15 @@ unfolding then_with paired followed_by
 headed_row p q Lambda rest names e =
     ap (λ w. then_with w (λ lambda names. Reads (ExprAt p (LambdaNode lambda), names))) (lambda_row p rest names)
 headed_row p q Let end names e = refl
-headed_row p q Let ((number r n) ▹ end) names e = refl
-headed_row p q Let ((number r n) ▹ s ▹ more) names e = refl
-headed_row p q Let ((truth_value r b) ▹ end) names e = refl
-headed_row p q Let ((truth_value r b) ▹ s ▹ more) names e = refl
-headed_row p q Let ((word r v) ▹ end) names e = refl
-headed_row p q Let ((word r v) ▹ s ▹ more) names e = refl
-headed_row p q Let ((name r x t) ▹ end) names e = refl
-headed_row p q Let ((name r x t) ▹ s ▹ more) names e = refl
-headed_row p q Let ((list r ds) ▹ end) names e = refl
-headed_row p q Let ((list r ds) ▹ s ▹ more) names e = refl
+headed_row p q Let (list r ds ▹ end) names e = refl
+headed_row p q Let (list r ds ▹ s ▹ more) names e = refl
+headed_row p q Let (s ▹ end) names e = refl
+headed_row p q Let (s ▹ t ▹ more) names e = refl
 headed_row p q Letrec end names e = refl
-headed_row p q Letrec ((number r n) ▹ end) names e = refl
-headed_row p q Letrec ((number r n) ▹ s ▹ more) names e = refl
-headed_row p q Letrec ((truth_value r b) ▹ end) names e = refl
-headed_row p q Letrec ((truth_value r b) ▹ s ▹ more) names e = refl
-headed_row p q Letrec ((word r v) ▹ end) names e = refl
-headed_row p q Letrec ((word r v) ▹ s ▹ more) names e = refl
-headed_row p q Letrec ((name r x t) ▹ end) names e = refl
-headed_row p q Letrec ((name r x t) ▹ s ▹ more) names e = refl
-headed_row p q Letrec ((list r ds) ▹ end) names e = refl
-headed_row p q Letrec ((list r ds) ▹ s ▹ more) names e = refl
+headed_row p q Letrec (list r ds ▹ end) names e = refl
+headed_row p q Letrec (list r ds ▹ s ▹ more) names e = refl
+headed_row p q Letrec (s ▹ end) names e = refl
+headed_row p q Letrec (s ▹ t ▹ more) names e = refl
 headed_row p q If end names e = refl
 headed_row p q If (a ▹ end) names e = refl
 headed_row p q If (a ▹ b ▹ end) names e = refl
@@ -183,11 +132,7 @@ headed_row p q Tuple (s ▹ more) names e = refl
 headed_row p q TupleProj end names e = refl
 headed_row p q TupleProj (a ▹ end) names e = refl
 headed_row p q TupleProj (a ▹ (number r (pos k)) ▹ end) names e = refl
-headed_row p q TupleProj (a ▹ (number r (negsuc k)) ▹ end) names e = refl
-headed_row p q TupleProj (a ▹ (truth_value r b) ▹ end) names e = refl
-headed_row p q TupleProj (a ▹ (word r v) ▹ end) names e = refl
-headed_row p q TupleProj (a ▹ (name r x t) ▹ end) names e = refl
-headed_row p q TupleProj (a ▹ (list r ds) ▹ end) names e = refl
+headed_row p q TupleProj (a ▹ k ▹ end) names e = refl
 headed_row p q TupleProj (a ▹ b ▹ c ▹ more) names e = refl
 headed_row p q Define rest names e = refl
 headed_row p q Colon end names e = refl
@@ -209,61 +154,34 @@ list_row p s rest w names e f =
 
 -- ---- names that are bound
 
+-- a name, and what is read of its value
+abbrev valued : {A : Type 0} → Parsing A → List ℕ × Option TypeExpr → Parsing (Bound A)
+valued value known names =
+    then_with (value names) (λ value names. Reads (record { name = known.0; written = known.1; value = value }, names))
+
 pub binding_row : (seen : List (List ℕ)) (s : Sexpr) (names : ℕ)
     → parse_binding seen s names ≡ binding_from seen s names
 unfolding then_with paired followed_by
-binding_row seen (number r n) names = refl
-binding_row seen (truth_value r b) names = refl
-binding_row seen (word r w) names = refl
-binding_row seen (name r x t) names = refl
-binding_row seen (list r end) names = refl
-binding_row seen (list r (x ▹ end)) names = refl
-binding_row seen (list r (x ▹ e ▹ end)) names =
-    plain_as (binder seen x) (λ bytes. (bytes, None)) (λ known names. then_with (parse e names)
-    (λ value names. Reads (record { name = known.0; written = known.1; value = value }, names))) names
-binding_row seen (list r (x ▹ c ▹ t ▹ end)) names = refl
+binding_row seen (list r (x ▹ e ▹ end)) names = plain_as (binder seen x) (λ name. (name, None)) (valued (parse e)) names
 binding_row seen (list r (x ▹ c ▹ t ▹ e ▹ end)) names =
-    plain_typed (binder seen x) (colon c) (walk_type t) (λ bytes type names. then_with (parse e names)
-    (λ value names. Reads (record { name = bytes; written = Some type; value = value }, names)))
-    (λ known names. then_with (parse e names)
-    (λ value names. Reads (record { name = known.0; written = known.1; value = value }, names))) names
-    (λ bytes type. refl)
-binding_row seen (list r (x ▹ c ▹ t ▹ e ▹ f ▹ more)) names = refl
+    plain_typed (binder seen x) (colon c) (walk_type t) (valued (parse e)) names
+binding_row seen s names = refl
 
 pub member_row : (seen : List (List ℕ)) (s : Sexpr) (names : ℕ)
     → parse_member seen s names ≡ member_from seen s names
 unfolding then_with paired followed_by
-member_row seen (number r n) names = refl
-member_row seen (truth_value r b) names = refl
-member_row seen (word r w) names = refl
-member_row seen (name r x t) names = refl
-member_row seen (list r end) names = refl
-member_row seen (list r (x ▹ end)) names = refl
 member_row seen (list r (x ▹ e ▹ end)) names =
-    plain_as (binder seen x) (λ bytes. (bytes, None)) (λ known names. then_with (parse_lambda_form e names)
-    (λ value names. Reads (record { name = known.0; written = known.1; value = value }, names))) names
-member_row seen (list r (x ▹ c ▹ t ▹ end)) names = refl
+    plain_as (binder seen x) (λ name. (name, None)) (valued (parse_lambda_form e)) names
 member_row seen (list r (x ▹ c ▹ t ▹ e ▹ end)) names =
-    plain_typed (binder seen x) (colon c) (walk_type t) (λ bytes type names. then_with (parse_lambda_form e names)
-    (λ value names. Reads (record { name = bytes; written = Some type; value = value }, names)))
-    (λ known names. then_with (parse_lambda_form e names)
-    (λ value names. Reads (record { name = known.0; written = known.1; value = value }, names))) names
-    (λ bytes type. refl)
-member_row seen (list r (x ▹ c ▹ t ▹ e ▹ f ▹ more)) names = refl
+    plain_typed (binder seen x) (colon c) (walk_type t) (valued (parse_lambda_form e)) names
+member_row seen s names = refl
 
 -- ---- the head of a `repeat`
 
 pub range_row : (s : Sexpr) (names : ℕ) → parse_range s names ≡ range_from s names
 unfolding then_with paired followed_by
-range_row (number r n) names = refl
-range_row (truth_value r b) names = refl
-range_row (word r w) names = refl
-range_row (name r x t) names = refl
-range_row (list r end) names = refl
-range_row (list r (a ▹ end)) names = refl
-range_row (list r (a ▹ b ▹ end)) names = refl
 range_row (list r (a ▹ b ▹ c ▹ end)) names = refl
-range_row (list r (a ▹ b ▹ c ▹ d ▹ more)) names = refl
+range_row s names = refl
 
 -- ---- what the readers answer
 

@@ -1,29 +1,22 @@
 -- The rows of the pass as the reader goes through them.
-use Rattle.std.proofs.Common.{◌≡◌, ℕ, ℤ, pos, ◌≤ℤ◌, ◌<ℤ◌, Bool, true, false, List}
-use Rattle.std.proofs.Common.{Some, None, refl, ap, ◌∙◌, sym, subst, arith}
+use Rattle.std.proofs.Common.{◌≡◌, ℕ, ℤ, pos, ◌≤ℤ◌, ◌<ℤ◌, Bool, true, false, List, refl, ap, ◌∙◌, sym, subst, arith}
 use Rattle.std.specs.Prelude.{negsuc, Result, Err}
 use Rattle.std.proofs.lemmas.Int.{ints}
 use Rattle.grift_base.specs.declared.places.Pos.{Pos}
 use Rattle.grift_base.specs.declared.refusals.RefusalKind.TheVariants.{BadForm}
 use Rattle.grift_base.specs.declared.refusals.FrontFault.{FrontFault}
 use Rattle.grift_base.specs.declared.refusals.FrontFault.TheVariants.{Refused, OutOfMemory}
-use Rattle.surface_syntax.specs.declared.words.Word.{Word}
-use Rattle.surface_syntax.specs.declared.words.Word.TheVariants.{Lambda, Let, Letrec, If, Begin, And, Or, Repeat, Tuple}
-use Rattle.surface_syntax.specs.declared.words.Word.TheVariants.{TupleProj, Define, Colon, Arrow, Operator}
+use Rattle.surface_syntax.specs.declared.words.Word.TheVariants.{Colon}
 use Rattle.surface_syntax.specs.declared.words.Mark.{Mark}
 use Rattle.surface_syntax.specs.declared.words.Mark.TheVariants.{Reserved, Free}
-use Rattle.surface_syntax.specs.Words.{is_arrow_word}
-use Rattle.surface_syntax.specs.Marked.{Sexpr, Sexprs, number, truth_value, word, name, list, end, ◌▹◌, place}
-use Rattle.surface_syntax.specs.Marked.{reserved_at, marked_symbol}
-use Rattle.surface_syntax.specs.Trees.{TypeExpr, Param, Expr, ExprAt, ProjNode, LambdaAt}
-use Rattle.surface_syntax.specs.Walking.{Walked, Reads, Refuses, followed_by, binder, colon, is_colon}
-use Rattle.surface_syntax.specs.Walk.{walk_type, walk_param_list}
+use Rattle.surface_syntax.specs.Marked.{Sexpr, Sexprs, number, word, end, ◌▹◌, marked_symbol}
+use Rattle.surface_syntax.specs.Trees.{TypeExpr}
+use Rattle.surface_syntax.specs.Walking.{Walked, Reads, Refuses, followed_by}
+use Rattle.surface_syntax.specs.Walk.{walk_param_list}
 use Rattle.surface_syntax.specs.TopWalk.{has_body}
-use Rattle.surface_syntax.specs.Pass.{Parsing, then_with, paired, parse, parse_list, parse_part, parse_each}
-use Rattle.surface_syntax.specs.Pass.{parse_lambda, parse_binding, parse_member, parse_lambda_form}
-use Rattle.surface_syntax.specs.Parts.{part_number, typed_name, parse_behind}
+use Rattle.surface_syntax.specs.Pass.{Parsing, then_with, paired, parse_lambda}
+use Rattle.surface_syntax.specs.Parts.{part_number, parse_behind}
 use Rattle.surface_syntax.specs.Claims.{Answers, Parses}
-use Rattle.surface_syntax.proofs.Steps.{reserved_is}
 
 -- ---- one line after another, and the first that is refused
 
@@ -82,56 +75,27 @@ plain_err {A} {B} {R} {S} walked next view wider names new fault given result e 
 
 -- ---- lambdas
 
+truth_is_one : true ≡ false → ⊥
+truth_is_one e = cc
+
 pub lambda_lacks : (p : Pos) (ps : Sexpr) (rest : Sexprs) (names : ℕ) → has_body rest ≡ false
     → parse_lambda p (ps ▹ rest) names ≡ Refuses BadForm p
 unfolding then_with paired
 lambda_lacks p ps end names e = refl
-lambda_lacks p ps (word q Lambda ▹ rest) names e = absurd (let z : ⊥ = cc in z)
-lambda_lacks p ps (word q Let ▹ rest) names e = absurd (let z : ⊥ = cc in z)
-lambda_lacks p ps (word q Letrec ▹ rest) names e = absurd (let z : ⊥ = cc in z)
-lambda_lacks p ps (word q If ▹ rest) names e = absurd (let z : ⊥ = cc in z)
-lambda_lacks p ps (word q Begin ▹ rest) names e = absurd (let z : ⊥ = cc in z)
-lambda_lacks p ps (word q And ▹ rest) names e = absurd (let z : ⊥ = cc in z)
-lambda_lacks p ps (word q Or ▹ rest) names e = absurd (let z : ⊥ = cc in z)
-lambda_lacks p ps (word q Repeat ▹ rest) names e = absurd (let z : ⊥ = cc in z)
-lambda_lacks p ps (word q Tuple ▹ rest) names e = absurd (let z : ⊥ = cc in z)
-lambda_lacks p ps (word q TupleProj ▹ rest) names e = absurd (let z : ⊥ = cc in z)
-lambda_lacks p ps (word q Define ▹ rest) names e = absurd (let z : ⊥ = cc in z)
 lambda_lacks p ps (word q Colon ▹ end) names e = refl
 lambda_lacks p ps (word q Colon ▹ t ▹ end) names e = refl
-lambda_lacks p ps (word q Colon ▹ t ▹ b ▹ more) names e = absurd (let z : ⊥ = cc in z)
-lambda_lacks p ps (word q Arrow ▹ rest) names e = absurd (let z : ⊥ = cc in z)
-lambda_lacks p ps (word q (Operator o) ▹ rest) names e = absurd (let z : ⊥ = cc in z)
-lambda_lacks p ps (number q n ▹ rest) names e = absurd (let z : ⊥ = cc in z)
-lambda_lacks p ps (truth_value q b ▹ rest) names e = absurd (let z : ⊥ = cc in z)
-lambda_lacks p ps (name q x t ▹ rest) names e = absurd (let z : ⊥ = cc in z)
-lambda_lacks p ps (list q ds ▹ rest) names e = absurd (let z : ⊥ = cc in z)
+lambda_lacks p ps (word q Colon ▹ t ▹ b ▹ more) names e = absurd (truth_is_one e)
+lambda_lacks p ps (s ▹ rest) names e = absurd (truth_is_one e)
 
 pub lambda_has : (p : Pos) (ps : Sexpr) (rest : Sexprs) (names : ℕ) → has_body rest ≡ true
     → parse_lambda p (ps ▹ rest) names
     ≡ then_with (paired (walk_param_list ps) names) (λ params. parse_behind p params rest)
 unfolding then_with paired
-lambda_has p ps end names e = absurd (let z : ⊥ = cc in z)
-lambda_has p ps (word q Lambda ▹ rest) names e = refl
-lambda_has p ps (word q Let ▹ rest) names e = refl
-lambda_has p ps (word q Letrec ▹ rest) names e = refl
-lambda_has p ps (word q If ▹ rest) names e = refl
-lambda_has p ps (word q Begin ▹ rest) names e = refl
-lambda_has p ps (word q And ▹ rest) names e = refl
-lambda_has p ps (word q Or ▹ rest) names e = refl
-lambda_has p ps (word q Repeat ▹ rest) names e = refl
-lambda_has p ps (word q Tuple ▹ rest) names e = refl
-lambda_has p ps (word q TupleProj ▹ rest) names e = refl
-lambda_has p ps (word q Define ▹ rest) names e = refl
-lambda_has p ps (word q Colon ▹ end) names e = absurd (let z : ⊥ = cc in z)
-lambda_has p ps (word q Colon ▹ t ▹ end) names e = absurd (let z : ⊥ = cc in z)
+lambda_has p ps end names e = absurd (truth_is_one (sym e))
+lambda_has p ps (word q Colon ▹ end) names e = absurd (truth_is_one (sym e))
+lambda_has p ps (word q Colon ▹ t ▹ end) names e = absurd (truth_is_one (sym e))
 lambda_has p ps (word q Colon ▹ t ▹ b ▹ more) names e = refl
-lambda_has p ps (word q Arrow ▹ rest) names e = refl
-lambda_has p ps (word q (Operator o) ▹ rest) names e = refl
-lambda_has p ps (number q n ▹ rest) names e = refl
-lambda_has p ps (truth_value q b ▹ rest) names e = refl
-lambda_has p ps (name q x t ▹ rest) names e = refl
-lambda_has p ps (list q ds ▹ rest) names e = refl
+lambda_has p ps (s ▹ rest) names e = refl
 
 -- ---- names with written types
 

@@ -1,22 +1,24 @@
 -- What the walk reads as a form is in the table.
 use Rattle.std.proofs.Common.{◌≡◌, ◌≤◌, ℕ, zero, suc, Bool, true, false, List, [], ◌∷◌, ◌++◌, refl, sym}
 use Rattle.std.proofs.Common.{ap, ◌∙◌, subst, arith}
-use Rattle.std.specs.Prelude.{pos, negsuc, not, Some, None}
+use Rattle.std.specs.Prelude.{pos, not, Option, Some, None}
 use Rattle.std.proofs.lemmas.Bool.{eqb-true}
 use Rattle.grift_base.specs.declared.places.Pos.{Pos}
 use Rattle.grift_base.specs.declared.refusals.RefusalKind.TheVariants.{BadForm, RepeatedName}
 use Rattle.surface_syntax.specs.Trees.{TypeExpr, Param}
 use Rattle.surface_syntax.specs.declared.names.Ident.TheVariants.{Source}
+use Rattle.surface_syntax.specs.declared.words.Word.{Word}
 use Rattle.surface_syntax.specs.declared.words.Word.TheVariants.{Lambda, Let, Letrec, If, Begin, And, Or, Repeat, Tuple}
-use Rattle.surface_syntax.specs.declared.words.Word.TheVariants.{TupleProj, Define, Colon, Arrow, Operator}
-use Rattle.surface_syntax.specs.Marked.{Sexpr, Sexprs, number, truth_value, word, name, list, end, ◌▹◌, how_many}
+use Rattle.surface_syntax.specs.declared.words.Word.TheVariants.{TupleProj, Colon, Arrow, Operator}
+use Rattle.surface_syntax.specs.Words.{is_colon_word}
+use Rattle.surface_syntax.specs.Marked.{Sexpr, Sexprs, number, truth_value, word, name, list, end, ◌▹◌, place, how_many}
 use Rattle.surface_syntax.specs.Written.{Form, FormAt, BeginForm, RepeatForm, RepeatIntoForm, TupleForm, LetForm}
-use Rattle.surface_syntax.specs.Written.{LetrecForm, Forms, LambdaWritten, LambdaFrom, LetForms, LetrecForms}
-use Rattle.surface_syntax.specs.Walking.{Reads, is_some, is_among}
-use Rattle.surface_syntax.specs.Walking.{binder, is_colon}
-use Rattle.surface_syntax.specs.Walk.{Range, Bound, walk_param, walk_params, walk_param_list, walk, walk_list}
-use Rattle.surface_syntax.specs.Walk.{walk_part, walk_each, walk_within, walk_lambda, walk_binding, walk_lets}
-use Rattle.surface_syntax.specs.Walk.{walk_member, walk_lambda_form, walk_letrecs, walk_range}
+use Rattle.surface_syntax.specs.Written.{LetrecForm, Forms, LambdaWritten, LambdaFrom, LetForms, LetFormThen}
+use Rattle.surface_syntax.specs.Written.{LetrecForms, LetrecFormThen}
+use Rattle.surface_syntax.specs.Walking.{Walked, Reads, followed_by, is_some, some, is_among, binder, colon, is_colon}
+use Rattle.surface_syntax.specs.Walk.{Range, Bound, walk_type, walk_param, walk_params, walk_param_list, walk}
+use Rattle.surface_syntax.specs.Walk.{walk_list, walk_part, walk_each, walk_within, walk_lambda, walk_binding}
+use Rattle.surface_syntax.specs.Walk.{walk_lets, walk_member, walk_lambda_form, walk_letrecs, walk_range}
 use Rattle.surface_syntax.specs.Table.{IsType, IsName, is_name, IsParam, is_plain, is_typed, AreParams, no_params}
 use Rattle.surface_syntax.specs.Table.{param_then, IsParamList, is_param_list, IsForm, integer_row, truth_row, name_row}
 use Rattle.surface_syntax.specs.Table.{unit_row, lambda_row, let_row, letrec_row, if_row, begin_row, ascribe_row}
@@ -29,6 +31,9 @@ use Rattle.surface_syntax.proofs.Binds.{parts_of, refused, read_is_one, test_hol
 use Rattle.surface_syntax.proofs.TypesFound.{type_found}
 
 -- ---- names and parameters
+
+false_is_no_truth : false ≡ true → ⊥
+false_is_no_truth e = cc
 
 new_of : (b : Bool) → not b ≡ true → b ≡ false
 new_of true e = absurd cc
@@ -53,26 +58,20 @@ as_new : (seen : List (List ℕ)) {x : List ℕ} {param : Param} {b : List ℕ �
     → Reads (x, param) ≡ Reads b → is_among seen b.0 ≡ false
 as_new seen h e = subst (λ b. is_among seen b.0 ≡ false) (read_is_one e) h
 
+-- the one s-expression that is a colon
+colon_word : (w : Word) → is_colon_word w ≡ true → w ≡ Colon
+colon_word Colon e = refl
+colon_word w e = absurd (false_is_no_truth e)
+
+pub colon_is : (c : Sexpr) → is_colon c ≡ true → c ≡ word (place c) Colon
+colon_is (word p w) e = ap (word p) (colon_word w e)
+colon_is c e = absurd (false_is_no_truth e)
+
 typed_param : (p : Pos) (s c t : Sexpr) (x : List ℕ) (type : TypeExpr) → is_colon c ≡ true → IsName s x
     → IsType t type → IsParam (list p (s ▹ c ▹ t ▹ end)) x (record { place = p; name = Source x; written = Some type })
-typed_param p s (word q Lambda) t x type e h k = absurd (let z : ⊥ = cc in z)
-typed_param p s (word q Let) t x type e h k = absurd (let z : ⊥ = cc in z)
-typed_param p s (word q Letrec) t x type e h k = absurd (let z : ⊥ = cc in z)
-typed_param p s (word q If) t x type e h k = absurd (let z : ⊥ = cc in z)
-typed_param p s (word q Begin) t x type e h k = absurd (let z : ⊥ = cc in z)
-typed_param p s (word q And) t x type e h k = absurd (let z : ⊥ = cc in z)
-typed_param p s (word q Or) t x type e h k = absurd (let z : ⊥ = cc in z)
-typed_param p s (word q Repeat) t x type e h k = absurd (let z : ⊥ = cc in z)
-typed_param p s (word q Tuple) t x type e h k = absurd (let z : ⊥ = cc in z)
-typed_param p s (word q TupleProj) t x type e h k = absurd (let z : ⊥ = cc in z)
-typed_param p s (word q Define) t x type e h k = absurd (let z : ⊥ = cc in z)
-typed_param p s (word q Colon) t x type e h k = is_typed h k
-typed_param p s (word q Arrow) t x type e h k = absurd (let z : ⊥ = cc in z)
-typed_param p s (word q (Operator o)) t x type e h k = absurd (let z : ⊥ = cc in z)
-typed_param p s (name q y u) t x type e h k = absurd (let z : ⊥ = cc in z)
-typed_param p s (number q n) t x type e h k = absurd (let z : ⊥ = cc in z)
-typed_param p s (truth_value q b) t x type e h k = absurd (let z : ⊥ = cc in z)
-typed_param p s (list q ds) t x type e h k = absurd (let z : ⊥ = cc in z)
+typed_param p s c t x type e h k =
+    subst (λ c. IsParam (list p (s ▹ c ▹ t ▹ end)) x (record { place = p; name = Source x; written = Some type }))
+    (sym (colon_is c e)) (is_typed h k)
 
 param_found : (seen : List (List ℕ)) (s : Sexpr) (b : List ℕ × Param) → walk_param seen s ≡ Reads b
     → IsParam s b.0 b.1 × (is_among seen b.0 ≡ false)
@@ -155,103 +154,28 @@ plain_lambda_of p ps (s ▹ rest) params forms e h b = plain_lambda h b
 
 typed_binding_of : (p : Pos) (s c t e : Sexpr) (x : List ℕ) (type : TypeExpr) (form : Form) → is_colon c ≡ true
     → IsName s x → IsType t type → IsForm e form → IsBinding (list p (s ▹ c ▹ t ▹ e ▹ end)) x (Some type) form
-typed_binding_of p s (word q Lambda) t e x type form f h k l = absurd (let z : ⊥ = cc in z)
-typed_binding_of p s (word q Let) t e x type form f h k l = absurd (let z : ⊥ = cc in z)
-typed_binding_of p s (word q Letrec) t e x type form f h k l = absurd (let z : ⊥ = cc in z)
-typed_binding_of p s (word q If) t e x type form f h k l = absurd (let z : ⊥ = cc in z)
-typed_binding_of p s (word q Begin) t e x type form f h k l = absurd (let z : ⊥ = cc in z)
-typed_binding_of p s (word q And) t e x type form f h k l = absurd (let z : ⊥ = cc in z)
-typed_binding_of p s (word q Or) t e x type form f h k l = absurd (let z : ⊥ = cc in z)
-typed_binding_of p s (word q Repeat) t e x type form f h k l = absurd (let z : ⊥ = cc in z)
-typed_binding_of p s (word q Tuple) t e x type form f h k l = absurd (let z : ⊥ = cc in z)
-typed_binding_of p s (word q TupleProj) t e x type form f h k l = absurd (let z : ⊥ = cc in z)
-typed_binding_of p s (word q Define) t e x type form f h k l = absurd (let z : ⊥ = cc in z)
-typed_binding_of p s (word q Colon) t e x type form f h k l = typed_binding h k l
-typed_binding_of p s (word q Arrow) t e x type form f h k l = absurd (let z : ⊥ = cc in z)
-typed_binding_of p s (word q (Operator o)) t e x type form f h k l = absurd (let z : ⊥ = cc in z)
-typed_binding_of p s (name q y u) t e x type form f h k l = absurd (let z : ⊥ = cc in z)
-typed_binding_of p s (number q n) t e x type form f h k l = absurd (let z : ⊥ = cc in z)
-typed_binding_of p s (truth_value q b) t e x type form f h k l = absurd (let z : ⊥ = cc in z)
-typed_binding_of p s (list q ds) t e x type form f h k l = absurd (let z : ⊥ = cc in z)
+typed_binding_of p s c t e x type form f h k l =
+    subst (λ c. IsBinding (list p (s ▹ c ▹ t ▹ e ▹ end)) x (Some type) form) (sym (colon_is c f)) (typed_binding h k l)
 
 -- a lambda form and its lambda
-abbrev IsFunction : Sexpr → LambdaWritten → Type 0
-IsFunction (list r (word q Lambda ▹ rest)) lambda = IsLambda r rest lambda
-IsFunction _ lambda = ⊥
+data IsFunction : Sexpr → LambdaWritten → Type 0 where
+  is_function_at : {r q : Pos} {rest : Sexprs} {lambda : LambdaWritten} → IsLambda r rest lambda
+      → IsFunction (list r (word q Lambda ▹ rest)) lambda
 
-plain_member_of : (p : Pos) (s e : Sexpr) (x : List ℕ) (lambda : LambdaWritten) → IsName s x → IsFunction e lambda
+plain_member_of : {p : Pos} {s e : Sexpr} {x : List ℕ} {lambda : LambdaWritten} → IsName s x → IsFunction e lambda
     → IsMember (list p (s ▹ e ▹ end)) x None lambda
-plain_member_of p s (list r (word q Lambda ▹ rest)) x lambda h k = plain_member h k
-plain_member_of p s (list r (word q Let ▹ rest)) x lambda h k = absurd k
-plain_member_of p s (list r (word q Letrec ▹ rest)) x lambda h k = absurd k
-plain_member_of p s (list r (word q If ▹ rest)) x lambda h k = absurd k
-plain_member_of p s (list r (word q Begin ▹ rest)) x lambda h k = absurd k
-plain_member_of p s (list r (word q And ▹ rest)) x lambda h k = absurd k
-plain_member_of p s (list r (word q Or ▹ rest)) x lambda h k = absurd k
-plain_member_of p s (list r (word q Repeat ▹ rest)) x lambda h k = absurd k
-plain_member_of p s (list r (word q Tuple ▹ rest)) x lambda h k = absurd k
-plain_member_of p s (list r (word q TupleProj ▹ rest)) x lambda h k = absurd k
-plain_member_of p s (list r (word q Define ▹ rest)) x lambda h k = absurd k
-plain_member_of p s (list r (word q Colon ▹ rest)) x lambda h k = absurd k
-plain_member_of p s (list r (word q Arrow ▹ rest)) x lambda h k = absurd k
-plain_member_of p s (list r (word q (Operator o) ▹ rest)) x lambda h k = absurd k
-plain_member_of p s (list r end) x lambda h k = absurd k
-plain_member_of p s (list r (name q y u ▹ rest)) x lambda h k = absurd k
-plain_member_of p s (list r (number q n ▹ rest)) x lambda h k = absurd k
-plain_member_of p s (list r (truth_value q b ▹ rest)) x lambda h k = absurd k
-plain_member_of p s (list r (list q l ▹ rest)) x lambda h k = absurd k
-plain_member_of p s (name q y u) x lambda h k = absurd k
-plain_member_of p s (number q n) x lambda h k = absurd k
-plain_member_of p s (truth_value q b) x lambda h k = absurd k
-plain_member_of p s (word q w) x lambda h k = absurd k
+plain_member_of h (is_function_at k) = plain_member h k
 
-typed_member_at : (p c : Pos) (s t e : Sexpr) (x : List ℕ) (type : TypeExpr) (lambda : LambdaWritten) → IsName s x
+typed_member_at : {p c : Pos} {s t e : Sexpr} {x : List ℕ} {type : TypeExpr} {lambda : LambdaWritten} → IsName s x
     → IsType t type → IsFunction e lambda → IsMember (list p (s ▹ word c Colon ▹ t ▹ e ▹ end)) x (Some type) lambda
-typed_member_at p c s t (list r (word q Lambda ▹ rest)) x type lambda h k m = typed_member h k m
-typed_member_at p c s t (list r (word q Let ▹ rest)) x type lambda h k m = absurd m
-typed_member_at p c s t (list r (word q Letrec ▹ rest)) x type lambda h k m = absurd m
-typed_member_at p c s t (list r (word q If ▹ rest)) x type lambda h k m = absurd m
-typed_member_at p c s t (list r (word q Begin ▹ rest)) x type lambda h k m = absurd m
-typed_member_at p c s t (list r (word q And ▹ rest)) x type lambda h k m = absurd m
-typed_member_at p c s t (list r (word q Or ▹ rest)) x type lambda h k m = absurd m
-typed_member_at p c s t (list r (word q Repeat ▹ rest)) x type lambda h k m = absurd m
-typed_member_at p c s t (list r (word q Tuple ▹ rest)) x type lambda h k m = absurd m
-typed_member_at p c s t (list r (word q TupleProj ▹ rest)) x type lambda h k m = absurd m
-typed_member_at p c s t (list r (word q Define ▹ rest)) x type lambda h k m = absurd m
-typed_member_at p c s t (list r (word q Colon ▹ rest)) x type lambda h k m = absurd m
-typed_member_at p c s t (list r (word q Arrow ▹ rest)) x type lambda h k m = absurd m
-typed_member_at p c s t (list r (word q (Operator o) ▹ rest)) x type lambda h k m = absurd m
-typed_member_at p c s t (list r end) x type lambda h k m = absurd m
-typed_member_at p c s t (list r (name q y u ▹ rest)) x type lambda h k m = absurd m
-typed_member_at p c s t (list r (number q n ▹ rest)) x type lambda h k m = absurd m
-typed_member_at p c s t (list r (truth_value q b ▹ rest)) x type lambda h k m = absurd m
-typed_member_at p c s t (list r (list q l ▹ rest)) x type lambda h k m = absurd m
-typed_member_at p c s t (name q y u) x type lambda h k m = absurd m
-typed_member_at p c s t (number q n) x type lambda h k m = absurd m
-typed_member_at p c s t (truth_value q b) x type lambda h k m = absurd m
-typed_member_at p c s t (word q w) x type lambda h k m = absurd m
+typed_member_at h k (is_function_at m) = typed_member h k m
 
 typed_member_of : (p : Pos) (s c t e : Sexpr) (x : List ℕ) (type : TypeExpr) (lambda : LambdaWritten)
     → is_colon c ≡ true → IsName s x → IsType t type → IsFunction e lambda
     → IsMember (list p (s ▹ c ▹ t ▹ e ▹ end)) x (Some type) lambda
-typed_member_of p s (word q Lambda) t e x type lambda f h k m = absurd (let z : ⊥ = cc in z)
-typed_member_of p s (word q Let) t e x type lambda f h k m = absurd (let z : ⊥ = cc in z)
-typed_member_of p s (word q Letrec) t e x type lambda f h k m = absurd (let z : ⊥ = cc in z)
-typed_member_of p s (word q If) t e x type lambda f h k m = absurd (let z : ⊥ = cc in z)
-typed_member_of p s (word q Begin) t e x type lambda f h k m = absurd (let z : ⊥ = cc in z)
-typed_member_of p s (word q And) t e x type lambda f h k m = absurd (let z : ⊥ = cc in z)
-typed_member_of p s (word q Or) t e x type lambda f h k m = absurd (let z : ⊥ = cc in z)
-typed_member_of p s (word q Repeat) t e x type lambda f h k m = absurd (let z : ⊥ = cc in z)
-typed_member_of p s (word q Tuple) t e x type lambda f h k m = absurd (let z : ⊥ = cc in z)
-typed_member_of p s (word q TupleProj) t e x type lambda f h k m = absurd (let z : ⊥ = cc in z)
-typed_member_of p s (word q Define) t e x type lambda f h k m = absurd (let z : ⊥ = cc in z)
-typed_member_of p s (word q Colon) t e x type lambda f h k m = typed_member_at p q s t e x type lambda h k m
-typed_member_of p s (word q Arrow) t e x type lambda f h k m = absurd (let z : ⊥ = cc in z)
-typed_member_of p s (word q (Operator o)) t e x type lambda f h k m = absurd (let z : ⊥ = cc in z)
-typed_member_of p s (name q y u) t e x type lambda f h k m = absurd (let z : ⊥ = cc in z)
-typed_member_of p s (number q n) t e x type lambda f h k m = absurd (let z : ⊥ = cc in z)
-typed_member_of p s (truth_value q b) t e x type lambda f h k m = absurd (let z : ⊥ = cc in z)
-typed_member_of p s (list q ds) t e x type lambda f h k m = absurd (let z : ⊥ = cc in z)
+typed_member_of p s c t e x type lambda f h k m =
+    subst (λ c. IsMember (list p (s ▹ c ▹ t ▹ e ▹ end)) x (Some type) lambda) (sym (colon_is c f))
+    (typed_member_at h k m)
 
 -- ---- answers that are one
 
@@ -264,34 +188,88 @@ as_forms {ds = ds} h e = subst (AreForms ds) (read_is_one e) h
 as_lambda : {p : Pos} {ds : Sexprs} {a b : LambdaWritten} → IsLambda p ds a → Reads a ≡ Reads b → IsLambda p ds b
 as_lambda {p = p} {ds = ds} h e = subst (IsLambda p ds) (read_is_one e) h
 
-abbrev FoundLets : List (List ℕ) → Sexprs → LetForms → Type 0
-FoundLets seen ds lets = (xs : List (List ℕ)) × AreLets ds xs lets × AreNew seen xs
+-- what a row says of a name with what it is bound to, where the name is new
+abbrev FoundBound : {A : Type 0} → (Sexpr → List ℕ → Option TypeExpr → A → Type 0) → List (List ℕ) → Sexpr → Bound A
+    → Type 0
+FoundBound Row seen s b = Row s b.name b.written b.value × (is_among seen b.name ≡ false)
 
-as_lets : (seen : List (List ℕ)) (ds : Sexprs) {a b : LetForms} → FoundLets seen ds a → Reads a ≡ Reads b
-    → FoundLets seen ds b
-as_lets seen ds h e = subst (FoundLets seen ds) (read_is_one e) h
+as_bound : {A : Type 0} (Row : Sexpr → List ℕ → Option TypeExpr → A → Type 0) (seen : List (List ℕ)) (s : Sexpr)
+    {a b : Bound A} → FoundBound Row seen s a → Reads a ≡ Reads b → FoundBound Row seen s b
+as_bound Row seen s h e = subst (FoundBound Row seen s) (read_is_one e) h
 
-abbrev FoundLetrecs : List (List ℕ) → Sexprs → LetrecForms → Type 0
-FoundLetrecs seen ds members = (xs : List (List ℕ)) × AreLetrecs ds xs members × AreNew seen xs
+-- without a written type
+plain_found : {A : Type 0} (Row : Sexpr → List ℕ → Option TypeExpr → A → Type 0) (seen : List (List ℕ)) (s x : Sexpr)
+    (value : Walked A) (b : Bound A)
+    → ((name : List ℕ) (a : A) → IsName x name → value ≡ Reads a → Row s name None a)
+    → followed_by (binder seen x) (λ name. followed_by value (λ a.
+    Reads (record { name = name; written = None; value = a }))) ≡ Reads b
+    → FoundBound Row seen s b
+plain_found Row seen s x value b row e =
+    let one = parts_of e in
+    let two = parts_of one.2 in
+    let h = name_found seen x one.0 one.1 in
+    as_bound Row seen s (row one.0 two.0 h.0 two.1, h.1) two.2
 
-as_letrecs : (seen : List (List ℕ)) (ds : Sexprs) {a b : LetrecForms} → FoundLetrecs seen ds a → Reads a ≡ Reads b
-    → FoundLetrecs seen ds b
-as_letrecs seen ds h e = subst (FoundLetrecs seen ds) (read_is_one e) h
+-- with a written type
+typed_found : {A : Type 0} (Row : Sexpr → List ℕ → Option TypeExpr → A → Type 0) (seen : List (List ℕ))
+    (s x c t : Sexpr) (value : Walked A) (b : Bound A)
+    → ((name : List ℕ) (type : TypeExpr) (a : A) → is_colon c ≡ true → IsName x name → IsType t type
+    → value ≡ Reads a → Row s name (Some type) a)
+    → followed_by (binder seen x) (λ name. followed_by (colon c) (λ done. followed_by (walk_type t) (λ type.
+    followed_by value (λ a. Reads (record { name = name; written = Some type; value = a }))))) ≡ Reads b
+    → FoundBound Row seen s b
+typed_found Row seen s x c t value b row e =
+    let one = parts_of e in
+    let two = parts_of one.2 in
+    let three = parts_of two.2 in
+    let four = parts_of three.2 in
+    let h = name_found seen x one.0 one.1 in
+    as_bound Row seen s (
+      row one.0 three.0 four.0 (test_holds _ BadForm _ two.1) h.0 (type_found t three.0 three.1) four.1,
+      h.1,
+    ) four.2
 
--- what is read as a binding, with the name and what it says of it
-abbrev FoundBinding : List (List ℕ) → Sexpr → Bound Form → Type 0
-FoundBinding seen s b = IsBinding s b.name b.written b.value × (is_among seen b.name ≡ false)
+-- the names of a list of them are new
+abbrev FoundAll : {L : Type 0} → (Sexprs → List (List ℕ) → L → Type 0) → List (List ℕ) → Sexprs → L → Type 0
+FoundAll Rows seen ds all = (xs : List (List ℕ)) × Rows ds xs all × AreNew seen xs
 
-as_binding : (seen : List (List ℕ)) (s : Sexpr) {a b : Bound Form} → FoundBinding seen s a → Reads a ≡ Reads b
-    → FoundBinding seen s b
-as_binding seen s h e = subst (FoundBinding seen s) (read_is_one e) h
+as_all : {L : Type 0} (Rows : Sexprs → List (List ℕ) → L → Type 0) (seen : List (List ℕ)) (ds : Sexprs) {a b : L}
+    → FoundAll Rows seen ds a → Reads a ≡ Reads b → FoundAll Rows seen ds b
+as_all Rows seen ds h e = subst (FoundAll Rows seen ds) (read_is_one e) h
 
-abbrev FoundMember : List (List ℕ) → Sexpr → Bound LambdaWritten → Type 0
-FoundMember seen s b = IsMember s b.name b.written b.value × (is_among seen b.name ≡ false)
+-- one, and those behind it
+more_found : {A L : Type 0} (Row : Sexpr → List ℕ → Option TypeExpr → A → Type 0)
+    (Rows : Sexprs → List (List ℕ) → L → Type 0) (put : Bound A → L → L) (seen : List (List ℕ)) (s : Sexpr)
+    (rest : Sexprs) (first : Walked (Bound A)) (others : List ℕ → Walked L) (all : L)
+    → ((b : Bound A) (xs : List (List ℕ)) (l : L) → Row s b.name b.written b.value → Rows rest xs l
+    → Rows (s ▹ rest) (b.name ∷ xs) (put b l))
+    → ((b : Bound A) → first ≡ Reads b → FoundBound Row seen s b)
+    → ((x : List ℕ) (l : L) → others x ≡ Reads l → FoundAll Rows (seen ++ x ∷ []) rest l)
+    → followed_by first (λ b. followed_by (others b.name) (λ l. Reads (put b l))) ≡ Reads all
+    → FoundAll Rows seen (s ▹ rest) all
+more_found Row Rows put seen s rest first others all rows one_is rest_are e =
+    let one = parts_of e in
+    let two = parts_of one.2 in
+    let h = one_is one.0 one.1 in
+    let k = rest_are one.0.name two.0 two.1 in
+    as_all Rows seen (s ▹ rest) (one.0.name ∷ k.0, rows one.0 k.0 two.0 h.0 k.1, (h.1, k.2)) two.2
 
-as_member : (seen : List (List ℕ)) (s : Sexpr) {a b : Bound LambdaWritten} → FoundMember seen s a → Reads a ≡ Reads b
-    → FoundMember seen s b
-as_member seen s h e = subst (FoundMember seen s) (read_is_one e) h
+-- names that are bound for a body
+grouped_found : {L : Type 0} (Rows : Sexprs → List (List ℕ) → L → Type 0) (node : L → Forms → Form) (p : Pos)
+    (s : Sexpr) (ds body : Sexprs) (bound : Walked L) (inner : Walked Forms) (form : Form)
+    → ((xs : List (List ℕ)) (all : L) (forms : Forms) → is_some body ≡ true → Rows ds xs all → AreNew [] xs
+    → AreForms body forms → IsForm s (node all forms))
+    → ((all : L) → bound ≡ Reads all → FoundAll Rows [] ds all)
+    → ((forms : Forms) → inner ≡ Reads forms → AreForms body forms)
+    → followed_by (some p body) (λ done. followed_by bound (λ all. followed_by inner (λ forms.
+    Reads (node all forms)))) ≡ Reads form
+    → IsForm s form
+grouped_found Rows node p s ds body bound inner form row bound_is inner_are e =
+    let one = parts_of e in
+    let two = parts_of one.2 in
+    let three = parts_of two.2 in
+    let h = bound_is two.0 two.1 in
+    as_form (row h.0 two.0 three.0 (test_holds _ BadForm p one.1) h.1 h.2 (inner_are three.0 three.1)) three.2
 
 -- the head of a `repeat`
 data FoundRange : Sexpr → Range → Type 0 where
@@ -306,7 +284,7 @@ repeat_of : {p q : Pos} {h e : Sexpr} {range : Range} {form : Form} → FoundRan
 repeat_of (found_range i a b) e = repeat_row i a b e
 
 repeat_into_of : {p q : Pos} {h c e : Sexpr} {range : Range} {start : Bound Form} {form : Form} → FoundRange h range
-    → FoundBinding (range.counter ∷ []) c start → IsForm e form
+    → FoundBound IsBinding (range.counter ∷ []) c start → IsForm e form
     → IsForm (list p (word q Repeat ▹ h ▹ c ▹ e ▹ end))
     (FormAt p (RepeatIntoForm range.counter range.first range.bound start.name start.written start.value form))
 repeat_into_of {range = range} {start = start} (found_range i a b) c e =
@@ -316,11 +294,7 @@ repeat_into_of {range = range} {start = start} (found_range i a b) c e =
 part_found : (p q : Pos) (e k : Sexpr) (tuple form : Form) → IsForm e tuple → walk_part p tuple k ≡ Reads form
     → IsForm (list p (word q TupleProj ▹ e ▹ k ▹ end)) form
 part_found p q e (number r (pos k)) tuple form h f = as_form (proj_row h) f
-part_found p q e (number r (negsuc k)) tuple form h f = absurd (refused f)
-part_found p q e (truth_value r b) tuple form h f = absurd (refused f)
-part_found p q e (word r w) tuple form h f = absurd (refused f)
-part_found p q e (name r x t) tuple form h f = absurd (refused f)
-part_found p q e (list r l) tuple form h f = absurd (refused f)
+part_found p q e k tuple form h f = absurd (refused f)
 
 mutual
   pub form_found : (s : Sexpr) (form : Form) → walk s ≡ Reads form → IsForm s form
@@ -337,20 +311,14 @@ mutual
       let one = parts_of e in
       as_form (lambda_row (lambda_found rest p one.0 one.1)) one.2
   list_found p (word q Let ▹ list r bindings ▹ body) form e =
-      let one = parts_of e in
-      let two = parts_of one.2 in
-      let three = parts_of two.2 in
-      let h = lets_found bindings [] two.0 two.1 in
-      as_form (let_of p q r bindings body h.0 two.0 three.0 (test_holds _ BadForm p one.1) h.1 h.2
-      (each_found body three.0 three.1)) three.2
+      grouped_found AreLets (λ all forms. FormAt p (LetForm all forms)) p _ bindings body (walk_lets [] bindings)
+      (walk_each body) form (let_of p q r bindings body) (λ all h. lets_found bindings [] all h)
+      (λ forms h. each_found body forms h) e
   list_found p (word q Let ▹ s ▹ body) form e = let one = parts_of e in absurd (refused one.2)
   list_found p (word q Letrec ▹ list r bindings ▹ body) form e =
-      let one = parts_of e in
-      let two = parts_of one.2 in
-      let three = parts_of two.2 in
-      let h = letrecs_found bindings [] two.0 two.1 in
-      as_form (letrec_of p q r bindings body h.0 two.0 three.0 (test_holds _ BadForm p one.1) h.1 h.2
-      (each_found body three.0 three.1)) three.2
+      grouped_found AreLetrecs (λ all forms. FormAt p (LetrecForm all forms)) p _ bindings body
+      (walk_letrecs [] bindings) (walk_each body) form (letrec_of p q r bindings body)
+      (λ all h. letrecs_found bindings [] all h) (λ forms h. each_found body forms h) e
   list_found p (word q Letrec ▹ s ▹ body) form e = let one = parts_of e in absurd (refused one.2)
   list_found p (word q If ▹ c ▹ t ▹ f ▹ end) form e =
       let one = parts_of e in
@@ -440,71 +408,43 @@ mutual
   lambda_found end p lambda e = absurd (refused e)
 
   pub binding_found : (s : Sexpr) (seen : List (List ℕ)) (b : Bound Form) → walk_binding seen s ≡ Reads b
-      → FoundBinding seen s b
+      → FoundBound IsBinding seen s b
   binding_found (list p (x ▹ f ▹ end)) seen b e =
-      let one = parts_of e in
-      let two = parts_of one.2 in
-      let h = name_found seen x one.0 one.1 in
-      as_binding seen (list p (x ▹ f ▹ end)) (plain_binding h.0 (form_found f two.0 two.1), h.1) two.2
+      plain_found IsBinding seen _ x (walk f) b (λ name form h k. plain_binding h (form_found f form k)) e
   binding_found (list p (x ▹ c ▹ t ▹ f ▹ end)) seen b e =
-      let one = parts_of e in
-      let two = parts_of one.2 in
-      let three = parts_of two.2 in
-      let four = parts_of three.2 in
-      let h = name_found seen x one.0 one.1 in
-      as_binding seen (list p (x ▹ c ▹ t ▹ f ▹ end)) (
-        typed_binding_of p x c t f one.0 three.0 four.0 (test_holds _ BadForm _ two.1) h.0
-            (type_found t three.0 three.1) (form_found f four.0 four.1),
-        h.1,
-      ) four.2
+      typed_found IsBinding seen _ x c t (walk f) b
+      (λ name type form is h k m. typed_binding_of p x c t f name type form is h k (form_found f form m)) e
   binding_found s seen b e = absurd (refused e)
 
   pub lets_found : (ds : Sexprs) (seen : List (List ℕ)) (lets : LetForms) → walk_lets seen ds ≡ Reads lets
-      → FoundLets seen ds lets
-  lets_found end seen lets e = as_lets seen end ([], no_lets, tt) e
+      → FoundAll AreLets seen ds lets
+  lets_found end seen lets e = as_all AreLets seen end ([], no_lets, tt) e
   lets_found (s ▹ rest) seen lets e =
-      let one = parts_of e in
-      let two = parts_of one.2 in
-      let h = binding_found s seen one.0 one.1 in
-      let k = lets_found rest (seen ++ one.0.name ∷ []) two.0 two.1 in
-      as_lets seen (s ▹ rest) (one.0.name ∷ k.0, let_then h.0 k.1, (h.1, k.2)) two.2
+      more_found IsBinding AreLets (λ b others. LetFormThen b.name b.written b.value others) seen s rest
+      (walk_binding seen s) (λ x. walk_lets (seen ++ x ∷ []) rest) lets (λ b xs l h k. let_then h k)
+      (λ b h. binding_found s seen b h) (λ x l k. lets_found rest (seen ++ x ∷ []) l k) e
 
   function_found : (s : Sexpr) (lambda : LambdaWritten) → walk_lambda_form s ≡ Reads lambda → IsFunction s lambda
-  function_found (list r (word q Lambda ▹ rest)) lambda e = lambda_found rest r lambda e
+  function_found (list r (word q Lambda ▹ rest)) lambda e = is_function_at (lambda_found rest r lambda e)
   function_found s lambda e = absurd (refused e)
 
   pub member_found : (s : Sexpr) (seen : List (List ℕ)) (b : Bound LambdaWritten) → walk_member seen s ≡ Reads b
-      → FoundMember seen s b
+      → FoundBound IsMember seen s b
   member_found (list p (x ▹ f ▹ end)) seen b e =
-      let one = parts_of e in
-      let two = parts_of one.2 in
-      let h = name_found seen x one.0 one.1 in
-      as_member seen (list p (x ▹ f ▹ end)) (
-        plain_member_of p x f one.0 two.0 h.0 (function_found f two.0 two.1),
-        h.1,
-      ) two.2
+      plain_found IsMember seen _ x (walk_lambda_form f) b
+      (λ name lambda h k. plain_member_of h (function_found f lambda k)) e
   member_found (list p (x ▹ c ▹ t ▹ f ▹ end)) seen b e =
-      let one = parts_of e in
-      let two = parts_of one.2 in
-      let three = parts_of two.2 in
-      let four = parts_of three.2 in
-      let h = name_found seen x one.0 one.1 in
-      as_member seen (list p (x ▹ c ▹ t ▹ f ▹ end)) (
-        typed_member_of p x c t f one.0 three.0 four.0 (test_holds _ BadForm _ two.1) h.0
-            (type_found t three.0 three.1) (function_found f four.0 four.1),
-        h.1,
-      ) four.2
+      typed_found IsMember seen _ x c t (walk_lambda_form f) b
+      (λ name type lambda is h k m. typed_member_of p x c t f name type lambda is h k (function_found f lambda m)) e
   member_found s seen b e = absurd (refused e)
 
   pub letrecs_found : (ds : Sexprs) (seen : List (List ℕ)) (members : LetrecForms)
-      → walk_letrecs seen ds ≡ Reads members → FoundLetrecs seen ds members
-  letrecs_found end seen members e = as_letrecs seen end ([], no_letrecs, tt) e
+      → walk_letrecs seen ds ≡ Reads members → FoundAll AreLetrecs seen ds members
+  letrecs_found end seen members e = as_all AreLetrecs seen end ([], no_letrecs, tt) e
   letrecs_found (s ▹ rest) seen members e =
-      let one = parts_of e in
-      let two = parts_of one.2 in
-      let h = member_found s seen one.0 one.1 in
-      let k = letrecs_found rest (seen ++ one.0.name ∷ []) two.0 two.1 in
-      as_letrecs seen (s ▹ rest) (one.0.name ∷ k.0, letrec_then h.0 k.1, (h.1, k.2)) two.2
+      more_found IsMember AreLetrecs (λ b others. LetrecFormThen b.name b.written b.value others) seen s rest
+      (walk_member seen s) (λ x. walk_letrecs (seen ++ x ∷ []) rest) members (λ b xs l h k. letrec_then h k)
+      (λ b h. member_found s seen b h) (λ x l k. letrecs_found rest (seen ++ x ∷ []) l k) e
 
   range_found : (s : Sexpr) (range : Range) → walk_range s ≡ Reads range → FoundRange s range
   range_found (list r (i ▹ a ▹ b ▹ end)) range e =

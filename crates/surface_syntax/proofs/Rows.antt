@@ -1,5 +1,5 @@
 -- The rows of the pass over the forms of a program, as the reader goes through them.
-use Rattle.std.proofs.Common.{◌≡◌, ◌≢◌, ◌-◌, ℕ, zero, suc, ℤ, Bool, true, false, List, [], ◌∷◌, ◌++◌}
+use Rattle.std.proofs.Common.{◌≡◌, ◌≢◌, ◌-◌, ℕ, zero, suc, true, false, List, [], ◌∷◌, ◌++◌}
 use Rattle.std.proofs.Common.{map, Option, Some, None, refl, ap, ◌∙◌, sym, subst, arith, append_assoc, append-nil}
 use Rattle.std.specs.Prelude.{Result, Ok, Err, IfOk}
 use Rattle.grift_base.specs.declared.places.Pos.{Pos}
@@ -11,10 +11,8 @@ use Rattle.sexpr_reader.specs.declared.sexps.SexpNode.TheVariants.{Int as IntCas
 use Rattle.sexpr_reader.specs.declared.sexps.SexpNode.TheVariants.{Symbol as SymbolCase, List as ListCase}
 use Rattle.sexpr_reader.specs.declared.sexps.SexpList.{SexpList}
 use Rattle.sexpr_reader.specs.View.{datum_at}
-use Rattle.surface_syntax.specs.declared.words.Word.{Word}
 use Rattle.surface_syntax.specs.declared.words.Word.TheVariants.{Lambda, Let, Letrec, If, Begin, And, Or, Repeat, Tuple}
 use Rattle.surface_syntax.specs.declared.words.Word.TheVariants.{TupleProj, Define, Colon, Arrow, Operator}
-use Rattle.surface_syntax.specs.declared.words.TypeWord.{TypeWord}
 use Rattle.surface_syntax.specs.declared.words.Mark.{Mark}
 use Rattle.surface_syntax.specs.declared.words.Mark.TheVariants.{Reserved, Free}
 use Rattle.surface_syntax.specs.declared.tops.Part.{Part as RustPart}
@@ -32,7 +30,7 @@ use Rattle.surface_syntax.specs.Pass.{parse_bound, parse_define, parse_top, pars
 use Rattle.surface_syntax.specs.Parts.{parse_behind}
 use Rattle.surface_syntax.specs.TopParts.{part_of, parse_named, is_definition, parse_definition, Grows}
 use Rattle.surface_syntax.proofs.Steps.{place_marked}
-use Rattle.surface_syntax.proofs.FormRows.{typed_then, lambda_has}
+use Rattle.surface_syntax.proofs.FormRows.{typed_then, lambda_has, bind_reads, plain_reads}
 
 -- ---- what is bound
 
@@ -271,60 +269,43 @@ define_function run p r x params body names e =
     ∙ lambda_then p (binder run x) (parse_lambda p (list r params ▹ body)) (walk_params 6 [] params)
     (λ ps. parse_behind p ps body) names (λ names. lambda_has p (list r params) body names e)
 
+-- the same of these elements, where the name is read
+pub function_named : (run : List (List ℕ)) (p r : Pos) (ds : Sexprs) (x : Sexpr) (params body : Sexprs) (names : ℕ)
+    (bytes : List ℕ) → ds ≡ x ▹ params → has_body body ≡ true → binder run x ≡ Reads bytes
+    → parse_define run p (list r ds ▹ body) names
+    ≡ then_with (paired (walk_params 6 [] params) names) (λ params names. then_with (parse_behind p params body names)
+    (λ lambda names. Reads (FunctionPart p bytes None lambda, names)))
+function_named run p r ds x params body names bytes same e h =
+    ap (λ ds. parse_define run p (list r ds ▹ body) names) same
+    ∙ define_function run p r x params body names e
+    ∙ bind_reads _ _ _ _ _ (plain_reads (binder run x) bytes names h) refl
+
 -- the definition of what is no list
 
-number_named : (run : List (List ℕ)) (p : Pos) (r : Pos) (n : ℤ) (rest : Sexprs) (names : ℕ)
-    → parse_define run p (number r n ▹ rest) names ≡ parse_named run p (number r n) rest names
-number_named run p r n end names = refl
-number_named run p r n (e ▹ end) names = refl
-number_named run p r n (e ▹ f ▹ end) names = refl
-number_named run p r n (c ▹ t ▹ e ▹ end) names =
-    typed_then (binder (run_for e run) (number r n)) (colon c) (walk_type t)
+not_list_named : (run : List (List ℕ)) (p : Pos) (s : Sexpr) (rest : Sexprs) (names : ℕ)
+    → ((r : Pos) (ds : Sexprs) → s ≡ list r ds → ⊥)
+    → parse_define run p (s ▹ rest) names ≡ parse_named run p s rest names
+not_list_named run p (list r ds) rest names h = absurd (h r ds refl)
+not_list_named run p s end names h = refl
+not_list_named run p s (e ▹ end) names h = refl
+not_list_named run p s (e ▹ f ▹ end) names h = refl
+not_list_named run p s (c ▹ t ▹ e ▹ end) names h =
+    typed_then (binder (run_for e run) s) (colon c) (walk_type t)
     (λ bytes type. parse_bound p bytes (Some type) e) names
-number_named run p r n (c ▹ t ▹ e ▹ f ▹ more) names = refl
+not_list_named run p s (c ▹ t ▹ e ▹ f ▹ more) names h = refl
 
-truth_named : (run : List (List ℕ)) (p : Pos) (r : Pos) (b : Bool) (rest : Sexprs) (names : ℕ)
-    → parse_define run p (truth_value r b ▹ rest) names ≡ parse_named run p (truth_value r b) rest names
-truth_named run p r b end names = refl
-truth_named run p r b (e ▹ end) names = refl
-truth_named run p r b (e ▹ f ▹ end) names = refl
-truth_named run p r b (c ▹ t ▹ e ▹ end) names =
-    typed_then (binder (run_for e run) (truth_value r b)) (colon c) (walk_type t)
-    (λ bytes type. parse_bound p bytes (Some type) e) names
-truth_named run p r b (c ▹ t ▹ e ▹ f ▹ more) names = refl
-
-word_named : (run : List (List ℕ)) (p : Pos) (r : Pos) (w : Word) (rest : Sexprs) (names : ℕ)
-    → parse_define run p (word r w ▹ rest) names ≡ parse_named run p (word r w) rest names
-word_named run p r w end names = refl
-word_named run p r w (e ▹ end) names = refl
-word_named run p r w (e ▹ f ▹ end) names = refl
-word_named run p r w (c ▹ t ▹ e ▹ end) names =
-    typed_then (binder (run_for e run) (word r w)) (colon c) (walk_type t)
-    (λ bytes type. parse_bound p bytes (Some type) e) names
-word_named run p r w (c ▹ t ▹ e ▹ f ▹ more) names = refl
-
-name_named : (run : List (List ℕ)) (p : Pos) (r : Pos) (y : List ℕ) (u : Option TypeWord) (rest : Sexprs) (names : ℕ)
-    → parse_define run p (name r y u ▹ rest) names ≡ parse_named run p (name r y u) rest names
-name_named run p r y u end names = refl
-name_named run p r y u (e ▹ end) names = refl
-name_named run p r y u (e ▹ f ▹ end) names = refl
-name_named run p r y u (c ▹ t ▹ e ▹ end) names =
-    typed_then (binder (run_for e run) (name r y u)) (colon c) (walk_type t)
-    (λ bytes type. parse_bound p bytes (Some type) e) names
-name_named run p r y u (c ▹ t ▹ e ▹ f ▹ more) names = refl
-
-symbol_named : (run : List (List ℕ)) (p r : Pos) (x : List ℕ) (m : Mark) (rest : Sexprs) (names : ℕ)
-    → parse_define run p (marked_symbol r x m ▹ rest) names ≡ parse_named run p (marked_symbol r x m) rest names
-symbol_named run p r x (Reserved w) rest names = word_named run p r w rest names
-symbol_named run p r x (Free t) rest names = name_named run p r x t rest names
+symbol_no_list : (p : Pos) (x : List ℕ) (m : Mark) (r : Pos) (ds : Sexprs) → marked_symbol p x m ≡ list r ds → ⊥
+symbol_no_list p x (Reserved w) r ds e = cc
+symbol_no_list p x (Free t) r ds e = cc
 
 pub is_named : (run : List (List ℕ)) (p r : Pos) (node : SexpNode) (rest : Sexprs) (names : ℕ)
     → ((elements : SexpList) → node ≡ ListCase elements → ⊥)
     → parse_define run p (marked (datum_at r node) ▹ rest) names
     ≡ parse_named run p (marked (datum_at r node)) rest names
-is_named run p r (IntCase n) rest names h = number_named run p r n rest names
-is_named run p r (BoolCase b) rest names h = truth_named run p r b rest names
-is_named run p r (SymbolCase x) rest names h = symbol_named run p r x (mark_of x) rest names
+is_named run p r (IntCase n) rest names h = not_list_named run p (number r n) rest names (λ q ds e. cc)
+is_named run p r (BoolCase b) rest names h = not_list_named run p (truth_value r b) rest names (λ q ds e. cc)
+is_named run p r (SymbolCase x) rest names h =
+    not_list_named run p (marked_symbol r x (mark_of x)) rest names (symbol_no_list r x (mark_of x))
 is_named run p r (ListCase elements) rest names h = absurd (h elements refl)
 
 -- the names of a run behind the definition of this name

@@ -27,20 +27,6 @@ use Rattle.surface_syntax.specs.Walking.{is_arrow_at, is_lambda_at, is_define_at
 use Rattle.surface_syntax.specs.Walk.{walk_type, walk_only, walk_types, walk_signature}
 use Rattle.surface_syntax.specs.Parts.{type_head, headed_type}
 
-pub colon_at : (s : Sexpr) (w : Word) → reserved_at s ≡ Some w → is_colon s ≡ is_colon_word w
-colon_at (word p v) w e = let same : v ≡ w = cc in ap is_colon_word same
-colon_at (number p n) w e = absurd (let z : ⊥ = cc in z)
-colon_at (truth_value p b) w e = absurd (let z : ⊥ = cc in z)
-colon_at (name p x t) w e = absurd (let z : ⊥ = cc in z)
-colon_at (list p elements) w e = absurd (let z : ⊥ = cc in z)
-
-pub arrow_at : (s : Sexpr) (w : Word) → reserved_at s ≡ Some w → is_arrow_at s ≡ is_arrow_word w
-arrow_at (word p v) w e = let same : v ≡ w = cc in ap is_arrow_word same
-arrow_at (number p n) w e = absurd (let z : ⊥ = cc in z)
-arrow_at (truth_value p b) w e = absurd (let z : ⊥ = cc in z)
-arrow_at (name p x t) w e = absurd (let z : ⊥ = cc in z)
-arrow_at (list p elements) w e = absurd (let z : ⊥ = cc in z)
-
 -- where a reserved word stands, nothing else does
 pub reserved_is : (s : Sexpr) (w : Word) → reserved_at s ≡ Some w → s ≡ word (place s) w
 reserved_is (word p v) w e = let same : v ≡ w = cc in ap (word p) same
@@ -49,19 +35,17 @@ reserved_is (truth_value p b) w e = absurd (let z : ⊥ = cc in z)
 reserved_is (name p x t) w e = absurd (let z : ⊥ = cc in z)
 reserved_is (list p elements) w e = absurd (let z : ⊥ = cc in z)
 
+pub colon_at : (s : Sexpr) (w : Word) → reserved_at s ≡ Some w → is_colon s ≡ is_colon_word w
+colon_at s w e = ap is_colon (reserved_is s w e)
+
+pub arrow_at : (s : Sexpr) (w : Word) → reserved_at s ≡ Some w → is_arrow_at s ≡ is_arrow_word w
+arrow_at s w e = ap is_arrow_at (reserved_is s w e)
+
 pub lambda_at : (s : Sexpr) (w : Word) → reserved_at s ≡ Some w → is_lambda_at s ≡ is_lambda_word w
-lambda_at (word p v) w e = let same : v ≡ w = cc in ap is_lambda_word same
-lambda_at (number p n) w e = absurd (let z : ⊥ = cc in z)
-lambda_at (truth_value p b) w e = absurd (let z : ⊥ = cc in z)
-lambda_at (name p x t) w e = absurd (let z : ⊥ = cc in z)
-lambda_at (list p elements) w e = absurd (let z : ⊥ = cc in z)
+lambda_at s w e = ap is_lambda_at (reserved_is s w e)
 
 pub define_at : (s : Sexpr) (w : Word) → reserved_at s ≡ Some w → is_define_at s ≡ is_define_word w
-define_at (word p v) w e = let same : v ≡ w = cc in ap is_define_word same
-define_at (number p n) w e = absurd (let z : ⊥ = cc in z)
-define_at (truth_value p b) w e = absurd (let z : ⊥ = cc in z)
-define_at (name p x t) w e = absurd (let z : ⊥ = cc in z)
-define_at (list p elements) w e = absurd (let z : ⊥ = cc in z)
+define_at s w e = ap is_define_at (reserved_is s w e)
 
 -- ---- places
 
@@ -224,24 +208,7 @@ signature_full zero (name q x t) rest e m = refl
 signature_full zero (number q n) rest e m = refl
 signature_full zero (truth_value q b) rest e m = refl
 signature_full zero (list q l) rest e m = refl
-signature_full (suc room) (word q Lambda) rest e m = absurd (omega arith)
-signature_full (suc room) (word q Let) rest e m = absurd (omega arith)
-signature_full (suc room) (word q Letrec) rest e m = absurd (omega arith)
-signature_full (suc room) (word q If) rest e m = absurd (omega arith)
-signature_full (suc room) (word q Begin) rest e m = absurd (omega arith)
-signature_full (suc room) (word q And) rest e m = absurd (omega arith)
-signature_full (suc room) (word q Or) rest e m = absurd (omega arith)
-signature_full (suc room) (word q Repeat) rest e m = absurd (omega arith)
-signature_full (suc room) (word q Tuple) rest e m = absurd (omega arith)
-signature_full (suc room) (word q TupleProj) rest e m = absurd (omega arith)
-signature_full (suc room) (word q Define) rest e m = absurd (omega arith)
-signature_full (suc room) (word q Colon) rest e m = absurd (omega arith)
-signature_full (suc room) (word q Arrow) rest e m = absurd (let z : ⊥ = cc in z)
-signature_full (suc room) (word q (Operator o)) rest e m = absurd (omega arith)
-signature_full (suc room) (name q x t) rest e m = absurd (omega arith)
-signature_full (suc room) (number q n) rest e m = absurd (omega arith)
-signature_full (suc room) (truth_value q b) rest e m = absurd (omega arith)
-signature_full (suc room) (list q l) rest e m = absurd (omega arith)
+signature_full (suc room) s rest e m = absurd (omega arith)
 
 pub signature_next : (room : ℕ) (s : Sexpr) (rest : Sexprs) → is_arrow_at s ≡ false
     → walk_signature (suc room) (s ▹ rest)

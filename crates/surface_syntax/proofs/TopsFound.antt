@@ -1,13 +1,12 @@
 -- What the walk reads as a form of a program is in the table.
 use Rattle.std.proofs.Common.{◌≡◌, ◌≤◌, zero, suc, arith, ℕ, true, false, List, ◌∷◌, refl}
-use Rattle.std.proofs.Common.{subst}
+use Rattle.std.proofs.Common.{subst, sym}
 use Rattle.std.specs.Prelude.{Option, Some, None}
 use Rattle.grift_base.specs.declared.places.Pos.{Pos}
 use Rattle.grift_base.specs.declared.refusals.RefusalKind.TheVariants.{BadForm}
 use Rattle.surface_syntax.specs.Trees.{TypeExpr}
-use Rattle.surface_syntax.specs.declared.words.Word.TheVariants.{Lambda, Let, Letrec, If, Begin, And, Or, Repeat, Tuple}
-use Rattle.surface_syntax.specs.declared.words.Word.TheVariants.{TupleProj, Define, Colon, Arrow, Operator}
-use Rattle.surface_syntax.specs.Marked.{Sexpr, Sexprs, number, truth_value, word, name, list, end, ◌▹◌, place, how_many}
+use Rattle.surface_syntax.specs.declared.words.Word.TheVariants.{Lambda, Define}
+use Rattle.surface_syntax.specs.Marked.{Sexpr, Sexprs, word, list, end, ◌▹◌, place, how_many}
 use Rattle.surface_syntax.specs.Written.{Top, ExprTop, ValueTop, FunctionTop}
 use Rattle.surface_syntax.specs.Walking.{Reads, is_colon, is_among}
 use Rattle.surface_syntax.specs.TopWalk.{walk_bound, run_for, run_after, walk_top, walk_tops, walk_define}
@@ -18,7 +17,7 @@ use Rattle.surface_syntax.proofs.Runs.{RunsAreNew}
 use Rattle.surface_syntax.proofs.Binds.{parts_of, refused, read_is_one, test_holds}
 use Rattle.surface_syntax.proofs.TypesFound.{type_found}
 use Rattle.surface_syntax.proofs.TopsRead.{IsNewIn}
-use Rattle.surface_syntax.proofs.FormsFound.{name_found, form_found, lambda_found}
+use Rattle.surface_syntax.proofs.FormsFound.{colon_is, name_found, form_found, lambda_found}
 
 as_bound : {p : Pos} {x : List ℕ} {t : Option TypeExpr} {e : Sexpr} {a b : Top} → IsBound p x t e a
     → Reads a ≡ Reads b → IsBound p x t e b
@@ -39,24 +38,9 @@ bound_found p x t e top h =
 typed_define_of : (p q : Pos) (s c t e : Sexpr) (x : List ℕ) (type : TypeExpr) (top : Top) → is_colon c ≡ true
     → IsName s x → IsType t type → IsBound p x (Some type) e top
     → IsTop (list p (word q Define ▹ s ▹ c ▹ t ▹ e ▹ end)) top
-typed_define_of p q s (word c Lambda) t e x type top f h k b = absurd (let z : ⊥ = cc in z)
-typed_define_of p q s (word c Let) t e x type top f h k b = absurd (let z : ⊥ = cc in z)
-typed_define_of p q s (word c Letrec) t e x type top f h k b = absurd (let z : ⊥ = cc in z)
-typed_define_of p q s (word c If) t e x type top f h k b = absurd (let z : ⊥ = cc in z)
-typed_define_of p q s (word c Begin) t e x type top f h k b = absurd (let z : ⊥ = cc in z)
-typed_define_of p q s (word c And) t e x type top f h k b = absurd (let z : ⊥ = cc in z)
-typed_define_of p q s (word c Or) t e x type top f h k b = absurd (let z : ⊥ = cc in z)
-typed_define_of p q s (word c Repeat) t e x type top f h k b = absurd (let z : ⊥ = cc in z)
-typed_define_of p q s (word c Tuple) t e x type top f h k b = absurd (let z : ⊥ = cc in z)
-typed_define_of p q s (word c TupleProj) t e x type top f h k b = absurd (let z : ⊥ = cc in z)
-typed_define_of p q s (word c Define) t e x type top f h k b = absurd (let z : ⊥ = cc in z)
-typed_define_of p q s (word c Colon) t e x type top f h k b = typed_define_row h k b
-typed_define_of p q s (word c Arrow) t e x type top f h k b = absurd (let z : ⊥ = cc in z)
-typed_define_of p q s (word c (Operator o)) t e x type top f h k b = absurd (let z : ⊥ = cc in z)
-typed_define_of p q s (name c y u) t e x type top f h k b = absurd (let z : ⊥ = cc in z)
-typed_define_of p q s (number c n) t e x type top f h k b = absurd (let z : ⊥ = cc in z)
-typed_define_of p q s (truth_value c g) t e x type top f h k b = absurd (let z : ⊥ = cc in z)
-typed_define_of p q s (list c l) t e x type top f h k b = absurd (let z : ⊥ = cc in z)
+typed_define_of p q s c t e x type top f h k b =
+    subst (λ c. IsTop (list p (word q Define ▹ s ▹ c ▹ t ▹ e ▹ end)) top) (sym (colon_is c f))
+    (typed_define_row h k b)
 
 define_found : (run : List (List ℕ)) (p q : Pos) (elements : Sexprs) (top : Top)
     → walk_define run p elements ≡ Reads top → IsTop (list p (word q Define ▹ elements)) top
