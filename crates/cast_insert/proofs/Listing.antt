@@ -31,6 +31,7 @@ use Rattle.cast_insert.specs.Calls.{Given, call_by, part_by, project_by}
 use Rattle.cast_insert.specs.Operators.{Operand, As, Content, Box, Vector, AsContent, OperatorAnswer, Always}
 use Rattle.cast_insert.specs.Operators.{TheContent, BoxOf, VectorOf, Held, holds, box_by, vector_by, with_content}
 use Rattle.cast_insert.specs.Operators.{operand_by, operands_of, answer_of, answer_type}
+use Rattle.cast_insert.proofs.Operators.{opened_by}
 use Rattle.cast_insert.specs.Elaboration.{Sequence, seq, Bound, MemberBody, Operands, elaborate, elaborate_node}
 use Rattle.cast_insert.specs.Elaboration.{elaborate_lambda, elaborate_sequence, elaborate_all, elaborate_each}
 use Rattle.cast_insert.specs.Elaboration.{elaborate_operands, elaborate_bindings, elaborate_members}
@@ -311,27 +312,25 @@ module _ (final : List Entry) where
   abbrev HeldListed : Typed → Held → Type 0
   HeldListed e held = Listed e → Listed held.held
 
+  ends_opened_by : (place : Pos) (e : Typed) (row : TypeRow) (work : Work) →
+      Ends (HeldListed e) work (opened_by place e row work)
+  ends_opened_by place e row work =
+      after_quiet (HeldListed e) work (form (intern row) work) _ (quiet_form (intern row) work)
+      (λ type mid. ends_then (λ cast. Listed e → Listed cast) (HeldListed e) mid (cast_at place e type mid) _
+      (ends_cast_at place e type mid) (λ opened later.
+      given (λ (held : Held). (Listed e → Listed opened) → HeldListed e held) (holds opened e.type) later
+      (λ cast listed. cast listed)))
+
   ends_box_by : (place : Pos) (e : Typed) (row : Option TypeRow) (work : Work) →
       Ends (HeldListed e) work (box_by place e row work)
   ends_box_by place e (Some (RefRow content)) work = given (HeldListed e) (holds e content) work (λ listed. listed)
-  ends_box_by place e (Some DynRow) work =
-      after_quiet (HeldListed e) work (form (intern (RefRow e.type)) work) _ (quiet_form (intern (RefRow e.type)) work)
-      (λ box mid. ends_then (λ cast. Listed e → Listed cast) (HeldListed e) mid (cast_at place e box mid) _
-      (ends_cast_at place e box mid) (λ opened later.
-      given (λ (held : Held). (Listed e → Listed opened) → HeldListed e held) (holds opened e.type) later
-      (λ cast listed. cast listed)))
+  ends_box_by place e (Some DynRow) work = ends_opened_by place e (RefRow e.type) work
   ends_box_by place e _ work = tt
 
   ends_vector_by : (place : Pos) (e : Typed) (row : Option TypeRow) (work : Work) →
       Ends (HeldListed e) work (vector_by place e row work)
   ends_vector_by place e (Some (VectRow content)) work = given (HeldListed e) (holds e content) work (λ listed. listed)
-  ends_vector_by place e (Some DynRow) work =
-      after_quiet (HeldListed e) work (form (intern (VectRow e.type)) work) _
-      (quiet_form (intern (VectRow e.type)) work)
-      (λ vector mid. ends_then (λ cast. Listed e → Listed cast) (HeldListed e) mid (cast_at place e vector mid) _
-      (ends_cast_at place e vector mid) (λ opened later.
-      given (λ (held : Held). (Listed e → Listed opened) → HeldListed e held) (holds opened e.type) later
-      (λ cast listed. cast listed)))
+  ends_vector_by place e (Some DynRow) work = ends_opened_by place e (VectRow e.type) work
   ends_vector_by place e _ work = tt
 
   quiet_row_of : (type : ℕ) (work : Work) → Quiet work (row_of type work)

@@ -174,6 +174,36 @@ bindings_from name own value rest environment e = do
   others ← elaborate_bindings rest environment
   give (bound_then name value variable bound others)
 
+-- what is left when its written type is there, when its value is cast, and when it has its variable
+abbrev bindings_wanted : Ident → Expr → LetBindings → Environment → Typed → Option ℕ → Making Bound
+bindings_wanted name value rest environment e wanted = do
+  bound ← cast_if (place_of value) wanted e
+  variable ← fresh
+  others ← elaborate_bindings rest environment
+  give (bound_then name value variable bound others)
+
+abbrev bindings_cast : Ident → Expr → LetBindings → Environment → Typed → Making Bound
+bindings_cast name value rest environment bound = do
+  variable ← fresh
+  others ← elaborate_bindings rest environment
+  give (bound_then name value variable bound others)
+
+abbrev bindings_named : Ident → Expr → LetBindings → Environment → Typed → ℕ → Making Bound
+bindings_named name value rest environment bound variable = do
+  others ← elaborate_bindings rest environment
+  give (bound_then name value variable bound others)
+
+-- the value of the first binding is there, and its written type
+bindings_written : (name : Ident) (own : Option TypeExpr) (value : Expr) (rest : LetBindings)
+    (environment : Environment) (e : Typed) (wanted : Option ℕ) (w0 w1 w2 : Work) →
+    elaborate value environment w0 ≡ Makes e w1 → written_if own w1 ≡ Makes wanted w2 →
+    elaborate_bindings (LetThen name own value rest) environment w0
+    ≡ bindings_wanted name value rest environment e wanted w2
+unfolding then_make
+bindings_written name own value rest environment e wanted w0 w1 w2 a b =
+    ap (λ m. then_make m (bindings_from name own value rest environment)) a
+    ∙ ap (λ m. then_make m (bindings_wanted name value rest environment e)) b
+
 pub bindings_more : (done : List Binding) (names : Environment) (name : Ident) (own : Option TypeExpr) (value : Expr)
     (rest : LetBindings) (environment : Environment) (e bound : Typed) (wanted : Option ℕ) (variable : ℕ)
     (w0 w1 w2 w3 w4 : Work) (whole : Made Bound) → elaborate value environment w0 ≡ Makes e w1 →
@@ -194,17 +224,9 @@ bindings_more done names name own value rest environment e bound wanted variable
     }) (append_assoc names (entry ∷ []) others.entries))
     ∙ sym (made_as_twice (bound_onto done names) (bound_then name value variable bound)
     (elaborate_bindings rest environment w4))
-    ∙ sym (ap (λ m. bound_behind done names (then_make m (λ variable work.
-    then_make (elaborate_bindings rest environment work) (λ others work.
-    Makes (bound_then name value variable bound others) work)))) d)
-    ∙ sym (ap (λ m. bound_behind done names (then_make m (λ bound work. then_make (fresh work) (λ variable work.
-    then_make (elaborate_bindings rest environment work) (λ others work.
-    Makes (bound_then name value variable bound others) work))))) c)
-    ∙ sym (ap (λ m. bound_behind done names (then_make m (λ wanted work.
-    then_make (cast_if (place_of value) wanted e work) (λ bound work. then_make (fresh work) (λ variable work.
-    then_make (elaborate_bindings rest environment work) (λ others work.
-    Makes (bound_then name value variable bound others) work)))))) b)
-    ∙ sym (ap (λ m. bound_behind done names (then_make m (bindings_from name own value rest environment))) a)
+    ∙ sym (ap (bound_behind done names) (bindings_written name own value rest environment e wanted w0 w1 w2 a b
+    ∙ ap (λ m. then_make m (bindings_cast name value rest environment)) c
+    ∙ ap (λ m. then_make m (bindings_named name value rest environment bound)) d))
     ∙ so_far
 
 pub bindings_refused : (done : List Binding) (names : Environment) (name : Ident) (own : Option TypeExpr)
@@ -225,10 +247,7 @@ pub bindings_unwritten : (done : List Binding) (names : Environment) (name : Ide
 unfolding then_make
 bindings_unwritten done names name own value rest environment e w0 w1 whole kind place last a b so_far =
     sym so_far ∙ ap (λ m. bound_behind done names (then_make m (bindings_from name own value rest environment))) a
-    ∙ ap (λ m. bound_behind done names (then_make m (λ wanted work.
-    then_make (cast_if (place_of value) wanted e work) (λ bound work. then_make (fresh work) (λ variable work.
-    then_make (elaborate_bindings rest environment work) (λ others work.
-    Makes (bound_then name value variable bound others) work)))))) b
+    ∙ ap (λ m. bound_behind done names (then_make m (bindings_wanted name value rest environment e))) b
 
 pub bindings_uncast : (done : List Binding) (names : Environment) (name : Ident) (own : Option TypeExpr)
     (value : Expr) (rest : LetBindings) (environment : Environment) (e : Typed) (wanted : Option ℕ) (w0 w1 w2 : Work)
@@ -239,14 +258,8 @@ pub bindings_uncast : (done : List Binding) (names : Environment) (name : Ident)
     whole ≡ Refuses kind place last
 unfolding then_make
 bindings_uncast done names name own value rest environment e wanted w0 w1 w2 whole kind place last a b c so_far =
-    sym so_far ∙ ap (λ m. bound_behind done names (then_make m (bindings_from name own value rest environment))) a
-    ∙ ap (λ m. bound_behind done names (then_make m (λ wanted work.
-    then_make (cast_if (place_of value) wanted e work) (λ bound work. then_make (fresh work) (λ variable work.
-    then_make (elaborate_bindings rest environment work) (λ others work.
-    Makes (bound_then name value variable bound others) work)))))) b
-    ∙ ap (λ m. bound_behind done names (then_make m (λ bound work. then_make (fresh work) (λ variable work.
-    then_make (elaborate_bindings rest environment work) (λ others work.
-    Makes (bound_then name value variable bound others) work))))) c
+    sym so_far ∙ ap (bound_behind done names) (bindings_written name own value rest environment e wanted w0 w1 w2 a b
+    ∙ ap (λ m. then_make m (bindings_cast name value rest environment)) c)
 
 pub bindings_done : (done : List Binding) (names : Environment) (environment : Environment) (work : Work)
     (whole : Made Bound) → bound_behind done names (elaborate_bindings NoLets environment work) ≡ whole →
@@ -338,25 +351,57 @@ failed_as {R} {S} {A} {B} OutOfMemory view seen result after part whole e answer
 
 -- ---- an `if`
 
-pub if_joined : (condition on_true on_false : Expr) (place : Pos) (environment : Environment)
-    (test truth first second : Typed) (w0 w1 w2 w3 w4 : Work) → elaborate condition environment w0 ≡ Makes test w1 →
-    cast_to_row (place_of condition) BoolRow test w1 ≡ Makes truth w2 →
-    elaborate on_true environment w2 ≡ Makes first w3 → elaborate on_false environment w3 ≡ Makes second w4 →
-    elaborate_node (IfNode condition on_true on_false) place environment w0
-    ≡ if_of place truth (place_of on_true) first (place_of on_false) second w4
+-- the first step fails, and so do all
+pub failed_first : {R S A B : Type 0} (fault : FrontFault) (view : S → A) (seen : R → B) (result : Result R FrontFault)
+    (after : Work) (made : Made A) (next : A → Making B) → result ≡ Err fault →
+    Answers (failed_with fault) view after made → Answers result seen after (then_make made next)
 unfolding then_make
-if_joined condition on_true on_false place environment test truth first second w0 w1 w2 w3 w4 a b c d =
-    ap (λ m. then_make m (λ test work. then_make (cast_to_row (place_of condition) BoolRow test work)
-    (λ truth work. then_make (elaborate on_true environment work) (λ first work.
-    then_make (elaborate on_false environment work) (λ second work.
-    if_of place truth (place_of on_true) first (place_of on_false) second work))))) a
-    ∙ ap (λ m. then_make m (λ truth work. then_make (elaborate on_true environment work) (λ first work.
-    then_make (elaborate on_false environment work) (λ second work.
-    if_of place truth (place_of on_true) first (place_of on_false) second work)))) b
-    ∙ ap (λ m. then_make m (λ first work. then_make (elaborate on_false environment work) (λ second work.
-    if_of place truth (place_of on_true) first (place_of on_false) second work))) c
-    ∙ ap (λ m. then_make m (λ second work.
-    if_of place truth (place_of on_true) first (place_of on_false) second work)) d
+failed_first fault view seen result after made next e answer =
+    failed_as fault view seen result after made (then_make made next) e answer
+    (λ kind place last refused. ap (λ m. then_make m next) refused)
+
+-- the first step was made, and what is left answers
+pub made_first : {R A B : Type 0} (seen : R → B) (result : Result R FrontFault) (after : Work) (made : Made A)
+    (next : A → Making B) (a : A) (work : Work) → made ≡ Makes a work → Answers result seen after (next a work) →
+    Answers result seen after (then_make made next)
+unfolding then_make
+made_first seen result after made next a work e answer =
+    subst (λ (m : Made _). Answers result seen after (then_make m next)) (sym e) answer
+
+pub made_then : {A B : Type 0} (made : Made A) (next : A → Making B) (a : A) (work : Work) (whole : Made B) →
+    made ≡ Makes a work → next a work ≡ whole → then_make made next ≡ whole
+unfolding then_make
+made_then made next a work whole e rest = ap (λ m. then_make m next) e ∙ rest
+
+-- what is left of an `if` when its condition is there, when that is cast, and when its first branch is there
+abbrev if_from : Expr → Expr → Expr → Pos → Environment → Typed → Making Typed
+if_from condition on_true on_false place environment test = do
+  truth ← cast_to_row (place_of condition) BoolRow test
+  first ← elaborate on_true environment
+  second ← elaborate on_false environment
+  if_of place truth (place_of on_true) first (place_of on_false) second
+
+abbrev if_tested : Expr → Expr → Pos → Environment → Typed → Making Typed
+if_tested on_true on_false place environment truth = do
+  first ← elaborate on_true environment
+  second ← elaborate on_false environment
+  if_of place truth (place_of on_true) first (place_of on_false) second
+
+abbrev if_begun : Expr → Expr → Pos → Environment → Typed → Typed → Making Typed
+if_begun on_true on_false place environment truth first = do
+  second ← elaborate on_false environment
+  if_of place truth (place_of on_true) first (place_of on_false) second
+
+-- an `if` whose condition is there and cast
+if_branches : (condition on_true on_false : Expr) (place : Pos) (environment : Environment) (test truth : Typed)
+    (w0 w1 w2 : Work) → elaborate condition environment w0 ≡ Makes test w1 →
+    cast_to_row (place_of condition) BoolRow test w1 ≡ Makes truth w2 →
+    elaborate_node (IfNode condition on_true on_false) place environment w0
+    ≡ if_tested on_true on_false place environment truth w2
+unfolding then_make
+if_branches condition on_true on_false place environment test truth w0 w1 w2 a b =
+    ap (λ m. then_make m (if_from condition on_true on_false place environment)) a
+    ∙ ap (λ m. then_make m (if_tested on_true on_false place environment)) b
 
 pub if_first : (condition on_true on_false : Expr) (place : Pos) (environment : Environment)
     (test truth : Typed) (w0 w1 w2 : Work) (kind : RefusalKind) (at : Pos) (last : Work) →
@@ -366,15 +411,20 @@ pub if_first : (condition on_true on_false : Expr) (place : Pos) (environment : 
     elaborate_node (IfNode condition on_true on_false) place environment w0 ≡ Refuses kind at last
 unfolding then_make
 if_first condition on_true on_false place environment test truth w0 w1 w2 kind at last a b c =
-    ap (λ m. then_make m (λ test work. then_make (cast_to_row (place_of condition) BoolRow test work)
-    (λ truth work. then_make (elaborate on_true environment work) (λ first work.
-    then_make (elaborate on_false environment work) (λ second work.
-    if_of place truth (place_of on_true) first (place_of on_false) second work))))) a
-    ∙ ap (λ m. then_make m (λ truth work. then_make (elaborate on_true environment work) (λ first work.
-    then_make (elaborate on_false environment work) (λ second work.
-    if_of place truth (place_of on_true) first (place_of on_false) second work)))) b
-    ∙ ap (λ m. then_make m (λ first work. then_make (elaborate on_false environment work) (λ second work.
-    if_of place truth (place_of on_true) first (place_of on_false) second work))) c
+    if_branches condition on_true on_false place environment test truth w0 w1 w2 a b
+    ∙ ap (λ m. then_make m (if_begun on_true on_false place environment truth)) c
+
+-- the same where the first branch is there too
+if_branch : (condition on_true on_false : Expr) (place : Pos) (environment : Environment) (test truth first : Typed)
+    (w0 w1 w2 w3 : Work) → elaborate condition environment w0 ≡ Makes test w1 →
+    cast_to_row (place_of condition) BoolRow test w1 ≡ Makes truth w2 →
+    elaborate on_true environment w2 ≡ Makes first w3 →
+    elaborate_node (IfNode condition on_true on_false) place environment w0
+    ≡ if_begun on_true on_false place environment truth first w3
+unfolding then_make
+if_branch condition on_true on_false place environment test truth first w0 w1 w2 w3 a b c =
+    if_branches condition on_true on_false place environment test truth w0 w1 w2 a b
+    ∙ ap (λ m. then_make m (if_begun on_true on_false place environment truth)) c
 
 pub if_second : (condition on_true on_false : Expr) (place : Pos) (environment : Environment)
     (test truth first : Typed) (w0 w1 w2 w3 : Work) (kind : RefusalKind) (at : Pos) (last : Work) →
@@ -384,14 +434,16 @@ pub if_second : (condition on_true on_false : Expr) (place : Pos) (environment :
     elaborate_node (IfNode condition on_true on_false) place environment w0 ≡ Refuses kind at last
 unfolding then_make
 if_second condition on_true on_false place environment test truth first w0 w1 w2 w3 kind at last a b c d =
-    ap (λ m. then_make m (λ test work. then_make (cast_to_row (place_of condition) BoolRow test work)
-    (λ truth work. then_make (elaborate on_true environment work) (λ first work.
-    then_make (elaborate on_false environment work) (λ second work.
-    if_of place truth (place_of on_true) first (place_of on_false) second work))))) a
-    ∙ ap (λ m. then_make m (λ truth work. then_make (elaborate on_true environment work) (λ first work.
-    then_make (elaborate on_false environment work) (λ second work.
-    if_of place truth (place_of on_true) first (place_of on_false) second work)))) b
-    ∙ ap (λ m. then_make m (λ first work. then_make (elaborate on_false environment work) (λ second work.
-    if_of place truth (place_of on_true) first (place_of on_false) second work))) c
-    ∙ ap (λ m. then_make m (λ second work.
-    if_of place truth (place_of on_true) first (place_of on_false) second work)) d
+    if_branch condition on_true on_false place environment test truth first w0 w1 w2 w3 a b c
+    ∙ ap (λ m. then_make m (if_of place truth (place_of on_true) first (place_of on_false))) d
+
+pub if_joined : (condition on_true on_false : Expr) (place : Pos) (environment : Environment)
+    (test truth first second : Typed) (w0 w1 w2 w3 w4 : Work) → elaborate condition environment w0 ≡ Makes test w1 →
+    cast_to_row (place_of condition) BoolRow test w1 ≡ Makes truth w2 →
+    elaborate on_true environment w2 ≡ Makes first w3 → elaborate on_false environment w3 ≡ Makes second w4 →
+    elaborate_node (IfNode condition on_true on_false) place environment w0
+    ≡ if_of place truth (place_of on_true) first (place_of on_false) second w4
+unfolding then_make
+if_joined condition on_true on_false place environment test truth first second w0 w1 w2 w3 w4 a b c d =
+    if_branch condition on_true on_false place environment test truth first w0 w1 w2 w3 a b c
+    ∙ ap (λ m. then_make m (if_of place truth (place_of on_true) first (place_of on_false))) d

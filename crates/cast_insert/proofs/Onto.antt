@@ -1,37 +1,83 @@
--- Lists of terms that are gathered with the last one first.
+-- Lists that are gathered with the last one first: terms, bindings and members.
 use Rattle.std.proofs.Common.{◌≡◌, List, [], ◌∷◌, ◌++◌, refl, sym, ap, ◌∙◌}
 use Rattle.std.specs.Prelude.{reverse}
 use Rattle.std.proofs.lemmas.List.{reverse-append}
-use Rattle.core_calc.specs.Terms.{Term, Terms, NoTerms, TermThen, term_list, terms_from}
+use Rattle.core_calc.specs.Terms.{Terms, NoTerms, TermThen, term_list, Bindings, NoBindings, BindingThen, Binding}
+use Rattle.core_calc.specs.Terms.{binding_list, Members, NoMembers, MemberThen, Member, member_list}
 use Rattle.cast_insert.specs.Gathered.{terms_onto}
+use Rattle.cast_insert.specs.Bodies.{bindings_onto, members_onto}
 
--- the terms of a list, as one
-again : (terms : Terms) → terms_from (term_list terms) ≡ terms
-again NoTerms = refl
-again (TermThen term rest) = ap (TermThen term) (again rest)
+-- ---- lists of any elements, by what puts an element in front
 
-abbrev onto_terms : List Term → Terms → Terms
-onto_terms [] terms = terms
-onto_terms (term ∷ rest) terms = TermThen term (onto_terms rest terms)
+abbrev in_front : {A L : Type 0} → (A → L → L) → List A → L → L
+in_front put [] rest = rest
+in_front put (x ∷ xs) rest = put x (in_front put xs rest)
 
-onto_append : (xs ys : List Term) (terms : Terms) → onto_terms (xs ++ ys) terms ≡ onto_terms xs (onto_terms ys terms)
-onto_append [] ys terms = refl
-onto_append (x ∷ xs) ys terms = ap (TermThen x) (onto_append xs ys terms)
+front_append : {A L : Type 0} (put : A → L → L) (xs ys : List A) (rest : L) →
+    in_front put (xs ++ ys) rest ≡ in_front put xs (in_front put ys rest)
+front_append put [] ys rest = refl
+front_append put (x ∷ xs) ys rest = ap (put x) (front_append put xs ys rest)
 
-onto_nothing : (xs : List Term) → onto_terms xs NoTerms ≡ terms_from xs
-onto_nothing [] = refl
-onto_nothing (x ∷ xs) = ap (TermThen x) (onto_nothing xs)
+-- what is put in front one after another stands there turned round
+record Gathers {A L : Type 0} (put : A → L → L) (onto : List A → L → L) : Type 0 where
+  none : (rest : L) → onto [] rest ≡ rest
+  more : (x : A) (xs : List A) (rest : L) → onto (x ∷ xs) rest ≡ onto xs (put x rest)
 
-onto_is : (xs : List Term) (terms : Terms) → terms_onto xs terms ≡ onto_terms (reverse xs) terms
-onto_is [] terms = refl
-onto_is (x ∷ xs) terms =
-    onto_is xs (TermThen x terms)
-    ∙ sym (onto_append (reverse xs) (x ∷ []) terms)
-    ∙ ap (λ ys. onto_terms ys terms) (sym (reverse-append (x ∷ []) xs))
+gathered_turned : {A L : Type 0} (put : A → L → L) (onto : List A → L → L) → Gathers put onto → (xs : List A)
+    (rest : L) → onto xs rest ≡ in_front put (reverse xs) rest
+gathered_turned put onto h [] rest = h.none rest
+gathered_turned put onto h (x ∷ xs) rest =
+    h.more x xs rest
+    ∙ gathered_turned put onto h xs (put x rest)
+    ∙ sym (front_append put (reverse xs) (x ∷ []) rest)
+    ∙ ap (λ ys. in_front put ys rest) (sym (reverse-append (x ∷ []) xs))
 
--- the terms turned round are those behind none
+-- the list with these elements turned round is what is gathered of them
+turned_gathered : {A L : Type 0} (put : A → L → L) (onto : List A → L → L) (none : L) (list : L → List A) →
+    Gathers put onto → ((all : L) → in_front put (list all) none ≡ all) → (all turned : L) →
+    list turned ≡ reverse (list all) → turned ≡ onto (list all) none
+turned_gathered put onto none list h again all turned e =
+    sym (again turned) ∙ ap (λ xs. in_front put xs none) e ∙ sym (gathered_turned put onto h (list all) none)
+
+-- ---- terms
+
+terms_again : (terms : Terms) → in_front TermThen (term_list terms) NoTerms ≡ terms
+terms_again NoTerms = refl
+terms_again (TermThen term rest) = ap (TermThen term) (terms_again rest)
+
 pub turned_onto : (terms turned : Terms) → term_list turned ≡ reverse (term_list terms) →
     turned ≡ terms_onto (term_list terms) NoTerms
 turned_onto terms turned e =
-    sym (again turned) ∙ ap terms_from e ∙ sym (onto_nothing (reverse (term_list terms)))
-    ∙ sym (onto_is (term_list terms) NoTerms)
+    turned_gathered TermThen terms_onto NoTerms term_list
+    (record { none = λ rest. refl; more = λ x xs rest. refl }) terms_again terms turned e
+
+-- ---- bindings
+
+abbrev bind : Binding → Bindings → Bindings
+bind one rest = BindingThen one.name one.bound rest
+
+bindings_again : (bindings : Bindings) → in_front bind (binding_list bindings) NoBindings ≡ bindings
+bindings_again NoBindings = refl
+bindings_again (BindingThen name bound rest) = ap (BindingThen name bound) (bindings_again rest)
+
+pub bindings_turned : (bindings turned : Bindings) → binding_list turned ≡ reverse (binding_list bindings) →
+    turned ≡ bindings_onto (binding_list bindings) NoBindings
+bindings_turned bindings turned e =
+    turned_gathered bind bindings_onto NoBindings binding_list
+    (record { none = λ rest. refl; more = λ x xs rest. refl }) bindings_again bindings turned e
+
+-- ---- members
+
+abbrev join : Member → Members → Members
+join one rest = MemberThen one.name one.parameters one.body one.type rest
+
+members_again : (members : Members) → in_front join (member_list members) NoMembers ≡ members
+members_again NoMembers = refl
+members_again (MemberThen name parameters body type rest) =
+    ap (MemberThen name parameters body type) (members_again rest)
+
+pub members_turned : (members turned : Members) → member_list turned ≡ reverse (member_list members) →
+    turned ≡ members_onto (member_list members) NoMembers
+members_turned members turned e =
+    turned_gathered join members_onto NoMembers member_list
+    (record { none = λ rest. refl; more = λ x xs rest. refl }) members_again members turned e

@@ -5,16 +5,16 @@ use Rattle.grift_base.specs.declared.operators.PrimOp.{PrimOp}
 use Rattle.grift_base.specs.declared.operators.PrimOp.TheVariants.{Add, Sub, Mul, Quot, Rem, Lt, Le, Eq, Ge, Gt, Not}
 use Rattle.grift_base.specs.declared.operators.PrimOp.TheVariants.{PrintInt, Newline, ReadInt, MakeBox, Unbox, BoxSet}
 use Rattle.grift_base.specs.declared.operators.PrimOp.TheVariants.{MakeVector, VectorRef, VectorSet, VectorLength}
-use Rattle.grift_base.specs.Types.{TypeRow, TypeRows, IntRow, BoolRow, UnitRow, DynRow, FunRow, TupleRow, RefRow}
-use Rattle.grift_base.specs.Types.{VectRow, row_at, parts_of}
+use Rattle.grift_base.specs.Types.{TypeRow, TypeRows, IntRow, BoolRow, UnitRow, DynRow, RefRow, VectRow, row_at}
+use Rattle.grift_base.specs.Types.{parts_of}
 use Rattle.core_calc.specs.Typing.{Context, Is, AreInts, IsOne, OperatorHasType}
 use Rattle.type_graph.proofs.Public.{none_is_not_some, same_some, row_stays, later_within}
 use Rattle.cast_insert.proofs.Tables.{IsFormedTable, AreRows}
 use Rattle.type_graph.specs.Forming.{intern}
-use Rattle.cast_insert.specs.Making.{Work, form, Typed, cast_if}
+use Rattle.cast_insert.specs.Making.{Work, Making, ◌>>=◌, give, form, Typed, cast_at, cast_if}
 use Rattle.cast_insert.specs.Operators.{Held, box_by, vector_by, Operand, As, Content, Box, Vector, AsContent}
 use Rattle.cast_insert.specs.Operators.{OperatorAnswer, Always, TheContent, BoxOf, VectorOf, operands_of, answer_of}
-use Rattle.cast_insert.specs.Operators.{operand_by, answer_type}
+use Rattle.cast_insert.specs.Operators.{holds, operand_by, answer_type}
 use Rattle.type_graph.specs.TypeTables.{HasMoreRows}
 use Rattle.cast_insert.proofs.Forming.{no_rows, one_row, head_row, row_within, parts_within}
 use Rattle.cast_insert.proofs.Works.{Keeps, then_keeps, keeps_more, Grown, not_grown, grown_on, IsTyped, later}
@@ -65,6 +65,13 @@ operands_later a b content (operand ∷ rest) given after more h = (
 
 -- ---- one operand
 
+-- a term that is Dyn, cast to this row of a box or a vector of what is Dyn
+abbrev pub opened_by : Pos → Typed → TypeRow → Making Held
+opened_by place e row = do
+  type ← form (intern row)
+  opened ← cast_at place e type
+  give (holds opened e.type)
+
 abbrev pub Fitting : Work → Context → ℕ → ℕ → Option ℕ → Operand → Held → Work → Type 0
 Fitting work context first last content operand held after =
     Casts work context first last held.held after × OperandFits after.types content operand held.held.type held.content
@@ -72,75 +79,47 @@ Fitting work context first last content operand held after =
 
 module _ (place : Pos) (context : Context) (first last : ℕ) (content : Option ℕ) (e : Typed) (work : Work) (table :
     IsFormedTable work.types) (t : IsTyped work context first last e) where
+  -- what is Dyn is cast to a box or a vector with this row, of what is Dyn
+  opened_keeps : (operand : Operand) (row : TypeRow) → AreRows work.types (parts_of row) → ((types : TypeRows) (type :
+      ℕ) → Is types type row → OperandFits types content operand type (Some e.type)) → Keeps (λ held after. Fitting work
+      context first last content operand held after) (opened_by place e row work)
+  opened_keeps operand row parts fits =
+      then_keeps (λ type after. FormsRow work row type after) (λ held after. Fitting work context first last content
+      operand held after) _ _
+      (row_formed work row table parts)
+      (λ type middle h. then_keeps (λ opened after. CastsTo middle context first last type opened after) (λ held after.
+      Fitting work context first last content operand held after) _ _
+      (cast_made place context first last e type middle h.0.table (later work middle context first last e h.0 t)
+      (row_within middle.types type row h.1))
+      (λ opened after k.
+      let all = grown_on work middle after h.0 k.0 in (
+        (all, k.1),
+        fits after.types opened.type (subst (λ type. Is after.types type row) (sym k.2) (row_stays middle.types
+            after.types type row k.0.types h.1)),
+        later_within work.types after.types e.type all.types t.row,
+      )))
+
   box_keeps : (row : Option TypeRow) → row_at work.types e.type ≡ row → Keeps (λ held after. Fitting work context first
       last content Box held after) (box_by place e row work)
   box_keeps (Some (RefRow held)) f = (
     (not_grown work table, t),
     (held, f, refl),
-    head_row work.types held [] (parts_within work.types e.type (RefRow
-        held) table f),
+    head_row work.types held [] (parts_within work.types e.type (RefRow held) table f),
   )
   box_keeps (Some DynRow) f =
-      then_keeps (λ box after. FormsRow work (RefRow e.type) box after) (λ held after. Fitting work context first last
-      content Box held after) _ _
-      (row_formed work (RefRow e.type) table (one_row work.types e.type t.row))
-      (λ box middle h. then_keeps (λ opened after. CastsTo middle context first last box opened after) (λ held after.
-      Fitting work context first last content Box held after) _ _
-      (cast_made place context first last e box middle h.0.table (later work middle context first last e h.0 t)
-      (row_within middle.types box (RefRow e.type) h.1))
-      (λ opened after k.
-      let all = grown_on work middle after h.0 k.0 in (
-        (all, k.1),
-        (
-          e.type,
-          subst (λ type. Is after.types type (RefRow e.type)) (sym k.2) (row_stays middle.types after.types box
-              (RefRow e.type) k.0.types h.1),
-          refl,
-        ),
-        later_within work.types after.types e.type all.types t.row,
-      )))
-  box_keeps (Some IntRow) f = tt
-  box_keeps (Some BoolRow) f = tt
-  box_keeps (Some UnitRow) f = tt
-  box_keeps (Some (FunRow parameters answer)) f = tt
-  box_keeps (Some (TupleRow parts)) f = tt
-  box_keeps (Some (VectRow held)) f = tt
-  box_keeps None f = tt
+      opened_keeps Box (RefRow e.type) (one_row work.types e.type t.row) (λ types type row. (e.type, row, refl))
+  box_keeps _ f = tt
 
   vector_keeps : (row : Option TypeRow) → row_at work.types e.type ≡ row → Keeps (λ held after. Fitting work context
       first last content Vector held after) (vector_by place e row work)
   vector_keeps (Some (VectRow held)) f = (
     (not_grown work table, t),
     (held, f, refl),
-    head_row work.types held [] (parts_within work.types e.type (VectRow
-        held) table f),
+    head_row work.types held [] (parts_within work.types e.type (VectRow held) table f),
   )
   vector_keeps (Some DynRow) f =
-      then_keeps (λ vector after. FormsRow work (VectRow e.type) vector after) (λ held after. Fitting work context
-      first last content Vector held after) _ _
-      (row_formed work (VectRow e.type) table (one_row work.types e.type t.row))
-      (λ vector middle h. then_keeps (λ opened after. CastsTo middle context first last vector opened after) (λ held
-      after. Fitting work context first last content Vector held after) _ _
-      (cast_made place context first last e vector middle h.0.table (later work middle context first last e h.0 t)
-      (row_within middle.types vector (VectRow e.type) h.1))
-      (λ opened after k.
-      let all = grown_on work middle after h.0 k.0 in (
-        (all, k.1),
-        (
-          e.type,
-          subst (λ type. Is after.types type (VectRow e.type)) (sym k.2) (row_stays middle.types after.types
-              vector (VectRow e.type) k.0.types h.1),
-          refl,
-        ),
-        later_within work.types after.types e.type all.types t.row,
-      )))
-  vector_keeps (Some IntRow) f = tt
-  vector_keeps (Some BoolRow) f = tt
-  vector_keeps (Some UnitRow) f = tt
-  vector_keeps (Some (FunRow parameters answer)) f = tt
-  vector_keeps (Some (TupleRow parts)) f = tt
-  vector_keeps (Some (RefRow held)) f = tt
-  vector_keeps None f = tt
+      opened_keeps Vector (VectRow e.type) (one_row work.types e.type t.row) (λ types type row. (e.type, row, refl))
+  vector_keeps _ f = tt
 
 -- types without parts, as operators name them
 abbrev pub IsPlain : Operand → Type 0

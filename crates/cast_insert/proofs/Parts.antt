@@ -5,8 +5,7 @@ use Rattle.std.specs.Prelude.{nat_eq}
 use Rattle.std.proofs.lemmas.Bool.{eqb-true}
 use Rattle.std.proofs.lemmas.Option.{slice_get_within, get_or_from_slice_get}
 use Rattle.grift_base.specs.declared.places.Pos.{Pos}
-use Rattle.grift_base.specs.Types.{TypeRow, TypeRows, IntRow, BoolRow, UnitRow, DynRow, FunRow, TupleRow, RefRow}
-use Rattle.grift_base.specs.Types.{VectRow, row_at, tuple_part}
+use Rattle.grift_base.specs.Types.{TypeRow, TypeRows, DynRow, FunRow, TupleRow, row_at, tuple_part}
 use Rattle.core_calc.specs.Terms.{Terms, Var, Call}
 use Rattle.core_calc.specs.Typing.{Context, binders, all_binders}
 use Rattle.type_graph.proofs.Public.{none_is_not_some, row_stays}
@@ -153,13 +152,7 @@ module _ (place function_place : Pos) (context : Context) (before : Work) (funct
         own = widen_names
             work.next work.next one.next after.next (all_binders given.terms) (omega arith) rest.next arguments.own;
       })))))
-  call_keeps (Some IntRow) e given_each given_all = tt
-  call_keeps (Some BoolRow) e given_each given_all = tt
-  call_keeps (Some UnitRow) e given_each given_all = tt
-  call_keeps (Some (TupleRow parts)) e given_each given_all = tt
-  call_keeps (Some (RefRow content)) e given_each given_all = tt
-  call_keeps (Some (VectRow content)) e given_each given_all = tt
-  call_keeps None e given_each given_all = tt
+  call_keeps _ e given_each given_all = tt
 
 -- ---- projections
 
@@ -222,10 +215,4 @@ module _ (place number_place : Pos) (context : Context) (before : Work) (whole :
           inside = tt;
         },
       )))
-  project_keeps (Some IntRow) e = tt
-  project_keeps (Some BoolRow) e = tt
-  project_keeps (Some UnitRow) e = tt
-  project_keeps (Some (FunRow parameters answer)) e = tt
-  project_keeps (Some (RefRow content)) e = tt
-  project_keeps (Some (VectRow content)) e = tt
-  project_keeps None e = tt
+  project_keeps _ e = tt
