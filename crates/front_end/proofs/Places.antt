@@ -2,8 +2,7 @@
 use Rattle.std.proofs.Common.{◌≡◌, ℕ, ℤ, Bool, true, false, List, [], ◌∷◌, ◌++◌, length, Option, Some, None, refl, sym}
 use Rattle.std.proofs.Common.{subst, slice_get}
 use Rattle.std.specs.Prelude.{nat_eq, if◌then◌else◌}
-use Rattle.grift_base.specs.Types.{TypeRow, IntRow, BoolRow, UnitRow, DynRow, FunRow, TupleRow, RefRow, VectRow}
-use Rattle.grift_base.specs.Types.{tuple_part}
+use Rattle.grift_base.specs.Types.{TypeRow, BoolRow, DynRow, FunRow, TupleRow, RefRow, VectRow, tuple_part}
 use Rattle.grift_base.specs.declared.places.Pos.{Pos}
 use Rattle.grift_base.specs.declared.operators.PrimOp.{PrimOp}
 use Rattle.grift_base.specs.declared.refusals.RefusalKind.{RefusalKind}
@@ -314,13 +313,7 @@ module _ (allowed : PrimOp → Bool) where
               arguments.terms placed,
         ),
       )))))
-  call_places place function_place function number each all he ha (Some IntRow) work h = tt
-  call_places place function_place function number each all he ha (Some BoolRow) work h = tt
-  call_places place function_place function number each all he ha (Some UnitRow) work h = tt
-  call_places place function_place function number each all he ha (Some (TupleRow parts)) work h = tt
-  call_places place function_place function number each all he ha (Some (RefRow content)) work h = tt
-  call_places place function_place function number each all he ha (Some (VectRow content)) work h = tt
-  call_places place function_place function number each all he ha None work h = tt
+  call_places place function_place function number each all he ha _ work h = tt
 
   part_places : (place : Pos) (whole : Typed) (k : ℤ) (part : Option ℕ) (work : Work) → Placed work.casts whole.term
       → Keeps PlacedTerm work.casts (part_by place whole k part work)
@@ -348,13 +341,7 @@ module _ (allowed : PrimOp → Bool) where
           ),
         ),
       )))
-  project_places place number_place whole k (Some IntRow) work h = tt
-  project_places place number_place whole k (Some BoolRow) work h = tt
-  project_places place number_place whole k (Some UnitRow) work h = tt
-  project_places place number_place whole k (Some (FunRow parameters answer)) work h = tt
-  project_places place number_place whole k (Some (RefRow content)) work h = tt
-  project_places place number_place whole k (Some (VectRow content)) work h = tt
-  project_places place number_place whole k None work h = tt
+  project_places place number_place whole k _ work h = tt
 
   abbrev PlacedHeld : Held → List Entry → Type 0
   PlacedHeld one casts = Placed casts one.held.term
@@ -373,25 +360,13 @@ module _ (allowed : PrimOp → Bool) where
       → Keeps PlacedHeld work.casts (box_by place e row work)
   box_places place e (Some (RefRow content)) work h = (same work.casts, h)
   box_places place e (Some DynRow) work h = opened_places place e (RefRow e.type) e.type work h
-  box_places place e (Some IntRow) work h = tt
-  box_places place e (Some BoolRow) work h = tt
-  box_places place e (Some UnitRow) work h = tt
-  box_places place e (Some (FunRow parameters answer)) work h = tt
-  box_places place e (Some (TupleRow parts)) work h = tt
-  box_places place e (Some (VectRow content)) work h = tt
-  box_places place e None work h = tt
+  box_places place e _ work h = tt
 
   vector_places : (place : Pos) (e : Typed) (row : Option TypeRow) (work : Work) → Placed work.casts e.term
       → Keeps PlacedHeld work.casts (vector_by place e row work)
   vector_places place e (Some (VectRow content)) work h = (same work.casts, h)
   vector_places place e (Some DynRow) work h = opened_places place e (VectRow e.type) e.type work h
-  vector_places place e (Some IntRow) work h = tt
-  vector_places place e (Some BoolRow) work h = tt
-  vector_places place e (Some UnitRow) work h = tt
-  vector_places place e (Some (FunRow parameters answer)) work h = tt
-  vector_places place e (Some (TupleRow parts)) work h = tt
-  vector_places place e (Some (RefRow content)) work h = tt
-  vector_places place e None work h = tt
+  vector_places place e _ work h = tt
 
   operand_places : (place : Pos) (content : Option ℕ) (e : Typed) (operand : Operand) (work : Work)
       → Placed work.casts e.term → Keeps PlacedHeld work.casts (operand_by place content e operand work)
