@@ -79,6 +79,17 @@ Fitting work context first last content operand held after =
 
 module _ (place : Pos) (context : Context) (first last : ℕ) (content : Option ℕ) (e : Typed) (work : Work) (table :
     IsFormedTable work.types) (t : IsTyped work context first last e) where
+  -- a box or a vector stays as it is
+  held_keeps : (operand : Operand) (held : ℕ) (row : TypeRow) → parts_of row ≡ held ∷ [] →
+      row_at work.types e.type ≡ Some row → OperandFits work.types content operand e.type (Some held) →
+      Fitting work context first last content operand (holds e held) work
+  held_keeps operand held row parts f fits = (
+    (not_grown work table, t),
+    fits,
+    head_row work.types held [] (subst (λ parts. AreRows work.types parts) parts
+        (parts_within work.types e.type row table f)),
+  )
+
   -- what is Dyn is cast to a box or a vector with this row, of what is Dyn
   opened_keeps : (operand : Operand) (row : TypeRow) → AreRows work.types (parts_of row) → ((types : TypeRows) (type :
       ℕ) → Is types type row → OperandFits types content operand type (Some e.type)) → Keeps (λ held after. Fitting work
@@ -101,22 +112,14 @@ module _ (place : Pos) (context : Context) (first last : ℕ) (content : Option 
 
   box_keeps : (row : Option TypeRow) → row_at work.types e.type ≡ row → Keeps (λ held after. Fitting work context first
       last content Box held after) (box_by place e row work)
-  box_keeps (Some (RefRow held)) f = (
-    (not_grown work table, t),
-    (held, f, refl),
-    head_row work.types held [] (parts_within work.types e.type (RefRow held) table f),
-  )
+  box_keeps (Some (RefRow held)) f = held_keeps Box held (RefRow held) refl f (held, f, refl)
   box_keeps (Some DynRow) f =
       opened_keeps Box (RefRow e.type) (one_row work.types e.type t.row) (λ types type row. (e.type, row, refl))
   box_keeps _ f = tt
 
   vector_keeps : (row : Option TypeRow) → row_at work.types e.type ≡ row → Keeps (λ held after. Fitting work context
       first last content Vector held after) (vector_by place e row work)
-  vector_keeps (Some (VectRow held)) f = (
-    (not_grown work table, t),
-    (held, f, refl),
-    head_row work.types held [] (parts_within work.types e.type (VectRow held) table f),
-  )
+  vector_keeps (Some (VectRow held)) f = held_keeps Vector held (VectRow held) refl f (held, f, refl)
   vector_keeps (Some DynRow) f =
       opened_keeps Vector (VectRow e.type) (one_row work.types e.type t.row) (λ types type row. (e.type, row, refl))
   vector_keeps _ f = tt
