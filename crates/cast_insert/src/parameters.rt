@@ -1,13 +1,13 @@
 // Parameters: their types, and their variables.
 #![tactic(auto, using(crate::proofs::Rules::rules), unfolding(crate::specs::Making::then_make))]
 
-ghost use Rattle.std.specs.Prelude.{◌≡◌, IfOk, OnOk, length};
+ghost use Rattle.std.specs.Prelude.{◌≡◌, ◌∷◌, IfOk, OnOk, length};
 ghost use Rattle.type_graph.specs.Rows.{places_of};
 ghost use Rattle.type_graph.specs.TypeTables.{MayBePart};
 ghost use Rattle.surface_syntax.specs.Views.{params_of, written_of};
 ghost use Rattle.core_calc.specs.Views.{names_of};
 ghost use Rattle.cast_insert.specs.Making.{Makes};
-ghost use Rattle.cast_insert.specs.Environments.{bind_names, parameter_types, type_or_dyn, variables};
+ghost use Rattle.cast_insert.specs.Environments.{bind_names, parameter_types, plain, type_or_dyn, variables};
 ghost use Rattle.cast_insert.specs.Programs.{AreSourceParams, MayBeWritten};
 ghost use Rattle.cast_insert.specs.Room.{AreParts, Grows};
 ghost use Rattle.cast_insert.specs.Scoped.{env_of};
@@ -16,11 +16,12 @@ ghost use Rattle.cast_insert.specs.Views.{Answers, work_of};
 use crate::copies::{copy_of_name, put_first};
 use crate::names::{Meaning, Named};
 use crate::progress::Progress;
-use core_calc::terms::VarIds;
+use core_calc::terms::{VarId, VarIds};
 use grift_base::lists::OutOfMemory;
 use grift_base::places::{Pos, TypeId};
 use grift_base::refusals::FrontFault;
 use std::alloc::Global;
+use surface_syntax::names::Ident;
 use surface_syntax::types::{Param, TypeExpr};
 use type_graph::rows::Row;
 
@@ -64,6 +65,30 @@ pub(crate) fn parameter_types(
     Ok(types)
 }
 
+// The names with this one in front, which means this variable of this type: what owns memory is kept over no exit of
+// the recursion.
+fn named_first(
+    alloc: Global,
+    names: Vec<Named>,
+    name: &Ident,
+    pos: Pos,
+    variable: VarId,
+    ty: TypeId,
+) -> Result<Vec<Named>, OutOfMemory>
+    ensures { IfOk result (λ all. env_of all.items ≡ (name.now, plain pos variable.0 ty.0) ∷ env_of names.items) }
+{
+    let name = copy_of_name(alloc, name)?;
+    let meaning = Meaning {
+        variable,
+        ty,
+        written: None,
+        pos,
+    };
+    let mut all = names;
+    put_first(&mut all, Named { name, meaning })?;
+    Ok(all)
+}
+
 /// A new variable for each of these parameters, which have these types. There are six at most.
 pub(crate) fn bind_names(
     alloc: Global,
@@ -83,16 +108,8 @@ pub(crate) fn bind_names(
         return Ok(Vec::new(alloc));
     };
     let variable = progress.fresh()?;
-    let mut names = bind_names(alloc, progress, pos, others, more)?;
-    let name = copy_of_name(alloc, &first.name)?;
-    let meaning = Meaning {
-        variable,
-        ty: *ty,
-        written: None,
-        pos,
-    };
-    put_first(&mut names, Named { name, meaning })?;
-    Ok(names)
+    let names = bind_names(alloc, progress, pos, others, more)?;
+    named_first(alloc, names, &first.name, pos, variable, *ty)
 }
 
 /// The variables of these names.
