@@ -28,15 +28,15 @@ ghost use Rattle.cast_insert.specs.Bodies.{bindings_onto, body_of, bound_of, fun
 ghost use Rattle.cast_insert.specs.Bodies.{lambda_with, member_with, members_onto, operation_on, sequence_of};
 ghost use Rattle.cast_insert.specs.Views.{Answers, place_if, typed_of, work_of};
 
-use crate::copies::{boxed, copy_of_name, refused};
+use crate::copies::{boxed, refused};
 use crate::heads::{Head, heads};
 use crate::joining::{
     Given, Placed, called_dyn, given_first, joined, literal, plain, projected, terms_first, tuple,
     turned, used,
 };
-use crate::names::{Meaning, Named, Scopes};
+use crate::names::{Named, Scopes};
 use crate::operands::{Operand, answer_type, fitted, operands_of};
-use crate::parameters::{bind_names, parameter_types, variables_of};
+use crate::parameters::{bind_names, parameter_types, plain_name, variables_of};
 use crate::progress::{Progress, Typed};
 use core_calc::terms::{
     Core, CoreBinding, CoreBindings, CoreList, GroupMember, GroupMembers, VarId, VarIds,
@@ -47,7 +47,6 @@ use grift_base::places::{Pos, TypeId};
 use grift_base::refusals::{FrontFault, RefusalKind};
 use std::alloc::Global;
 use surface_syntax::exprs::{Bindings, Expr, ExprList, ExprNode, LambdaExpr, Members};
-use surface_syntax::names::Ident;
 use surface_syntax::types::TypeExpr;
 use type_graph::rows::{Row, TypeIds};
 
@@ -211,34 +210,6 @@ fn group_term(alloc: Global, group: GroupMembers, done: Sequence) -> Result<Type
 {
     let inner = boxed(alloc, Core::Seq(done.terms))?;
     plain(alloc, Core::Group(group, inner), done.ty)
-}
-
-// A name that means this variable of this type.
-fn plain_name(
-    alloc: Global,
-    name: &Ident,
-    pos: Pos,
-    variable: VarId,
-    ty: TypeId,
-) -> Result<Named, OutOfMemory>
-    ensures { IfOk result (λ named. named ≡ record {
-      name = name.now;
-      meaning = record {
-        variable = variable;
-        ty = ty;
-        written = None;
-        pos = pos;
-      };
-    }) }
-{
-    let name = copy_of_name(alloc, name)?;
-    let meaning = Meaning {
-        variable,
-        ty,
-        written: None,
-        pos,
-    };
-    Ok(Named { name, meaning })
 }
 
 fn push(names: &mut Vec<Named>, named: Named) -> Result<(), OutOfMemory>

@@ -1,7 +1,7 @@
 // Parameters: their types, and their variables.
 #![tactic(auto, using(crate::proofs::Rules::rules), unfolding(crate::specs::Making::then_make))]
 
-ghost use Rattle.std.specs.Prelude.{◌≡◌, ◌∷◌, IfOk, OnOk, length};
+ghost use Rattle.std.specs.Prelude.{◌≡◌, ◌∷◌, IfOk, None, OnOk, length};
 ghost use Rattle.type_graph.specs.Rows.{places_of};
 ghost use Rattle.type_graph.specs.TypeTables.{MayBePart};
 ghost use Rattle.surface_syntax.specs.Views.{params_of, written_of};
@@ -65,8 +65,35 @@ pub(crate) fn parameter_types(
     Ok(types)
 }
 
-// The names with this one in front, which means this variable of this type: what owns memory is kept over no exit of
-// the recursion.
+/// A name that means this variable of this type.
+pub(crate) fn plain_name(
+    alloc: Global,
+    name: &Ident,
+    pos: Pos,
+    variable: VarId,
+    ty: TypeId,
+) -> Result<Named, OutOfMemory>
+    ensures { IfOk result (λ named. named ≡ record {
+      name = name.now;
+      meaning = record {
+        variable = variable;
+        ty = ty;
+        written = None;
+        pos = pos;
+      };
+    }) }
+{
+    let name = copy_of_name(alloc, name)?;
+    let meaning = Meaning {
+        variable,
+        ty,
+        written: None,
+        pos,
+    };
+    Ok(Named { name, meaning })
+}
+
+// The names with this one in front, which means this variable of this type.
 fn named_first(
     alloc: Global,
     names: Vec<Named>,
@@ -77,15 +104,9 @@ fn named_first(
 ) -> Result<Vec<Named>, OutOfMemory>
     ensures { IfOk result (λ all. env_of all.items ≡ (name.now, plain pos variable.0 ty.0) ∷ env_of names.items) }
 {
-    let name = copy_of_name(alloc, name)?;
-    let meaning = Meaning {
-        variable,
-        ty,
-        written: None,
-        pos,
-    };
+    let named = plain_name(alloc, name, pos, variable, ty)?;
     let mut all = names;
-    put_first(&mut all, Named { name, meaning })?;
+    put_first(&mut all, named)?;
     Ok(all)
 }
 

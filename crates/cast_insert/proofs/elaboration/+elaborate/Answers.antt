@@ -7,13 +7,15 @@ use Rattle.surface_syntax.specs.declared.exprs.ExprList.{the_lemmas as list_lemm
 use Rattle.cast_insert.specs.Making.{Makes, Made, Typed, then_make}
 use Rattle.std.proofs.lemmas.Grind.{common_steps}
 use Rattle.cast_insert.specs.Elaboration.{elaborate, elaborate_sequence, elaborate_node}
-use Rattle.cast_insert.specs.Gathered.{terms_onto}
-use Rattle.cast_insert.specs.Bodies.{sequence_of}
+use Rattle.cast_insert.specs.Gathered.{given_of, terms_onto}
+use Rattle.cast_insert.specs.Bodies.{bound_of, gathered_of, sequence_of}
+use Rattle.cast_insert.specs.Calls.{Given}
+use Rattle.grift_base.specs.declared.places.TypeId.{TypeId}
 use Rattle.cast_insert.specs.Views.{typed_of, work_of, meaning_seen, place_if, Answers}
 use Rattle.cast_insert.proofs.Loops.{failed_as, sequence_refused, sequence_last, sequence_more, bindings_more}
 use Rattle.cast_insert.specs.Programs.{IsSourceBody, AreSourceBindings, AreSourceMembers}
 use Rattle.cast_insert.proofs.Room.{body_first, body_rest, grows_last, grows_on}
-use Rattle.cast_insert.proofs.Loops.{if_first, if_second, if_joined, loop_steps}
+use Rattle.cast_insert.proofs.Loops.{if_first, if_second, if_joined, loop_steps, failed_first, made_first, made_then}
 use Rattle.std.proofs.lemmas.List.{map-append}
 use Rattle.surface_syntax.specs.declared.names.Ident.{Ident}
 use Rattle.surface_syntax.specs.declared.exprs.Binding.{out-Binding}
@@ -212,3 +214,89 @@ pub tuple_form-returns-clause-grows : goal.tuple_form-returns-clause-grows
 tuple_form-returns-clause-grows t c =
     grows_last c.tuple.result c.args.progress.now.types c.all.new.progress.types c.tuple.new.progress.types
     c.in_ok-given.ensures.grows c.tuple.ensures.grows
+
+-- ---- forms of several steps: the first that fails, and the last
+
+pub ascribed-returns-in_err-e-clause-answer : goal.ascribed-returns-in_err-e-clause-answer
+ascribed-returns-in_err-e-clause-answer t c =
+    failed_first c.in_err-e.field-0.0 typed_of typed_of _ _ _ _ (search rules) c.in_err-e.ensures.answer
+
+pub ascribed-returns-in_err-ty-clause-answer : goal.ascribed-returns-in_err-ty-clause-answer
+ascribed-returns-in_err-ty-clause-answer t c =
+    made_first typed_of _ _ _ _ _ _ c.in_ok-e.ensures.answer
+    (failed_first c.in_err-ty.field-0.0 (λ (ty : TypeId). ty.0) typed_of _ _ _ _ (search rules)
+    c.in_err-ty.ensures.answer)
+
+pub ascribed-returns-clause-answer : goal.ascribed-returns-clause-answer
+ascribed-returns-clause-answer t c =
+    made_first typed_of _ _ _ _ _ _ c.in_ok-e.ensures.answer
+    (made_first typed_of _ _ _ _ _ _ c.in_ok-ty.ensures.answer c.cast_to.ensures.answer)
+
+pub begin_form-returns-in_err-done-clause-answer : goal.begin_form-returns-in_err-done-clause-answer
+begin_form-returns-in_err-done-clause-answer t c = λ place.
+    failed_first c.in_err-done.field-0.0 sequence_of typed_of _ _ _ _ (search rules) c.in_err-done.ensures.answer
+
+pub tuple_form-returns-in_err-given-clause-answer : goal.tuple_form-returns-in_err-given-clause-answer
+tuple_form-returns-in_err-given-clause-answer t c = λ place.
+    failed_first c.in_err-given.field-0.0 given_of typed_of _ _ _ _ (search rules) c.in_err-given.ensures.answer
+
+pub tuple_form-returns-clause-answer : goal.tuple_form-returns-clause-answer
+tuple_form-returns-clause-answer t c = λ place.
+    made_first typed_of _ _ _ _ _ _ c.in_ok-given.ensures.answer c.tuple.ensures.answer
+
+pub operation-returns-in_err-given-clause-answer : goal.operation-returns-in_err-given-clause-answer
+operation-returns-in_err-given-clause-answer t c = λ place.
+    failed_first c.in_err-given.field-0.0 gathered_of typed_of _ _ _ _ (search rules)
+    (rw c.operands_of-wanted.ensures at c.in_err-given.ensures.answer)
+
+pub operation-returns-clause-answer : goal.operation-returns-clause-answer
+operation-returns-clause-answer t c = λ place.
+    made_first typed_of _ _ _ _ _ _ (rw c.operands_of-wanted.ensures at c.in_ok-given.ensures.answer)
+    c.operated.ensures.answer
+
+pub lambda_body-returns-in_err-done-clause-answer : goal.lambda_body-returns-in_err-done-clause-answer
+lambda_body-returns-in_err-done-clause-answer t c =
+    failed_first c.in_err-done.field-0.0 sequence_of typed_of _ _ _ _ (search rules) c.in_err-done.ensures.answer
+
+pub lambda_body-returns-clause-answer : goal.lambda_body-returns-clause-answer
+lambda_body-returns-clause-answer t c =
+    made_first typed_of _ _ _ _ _ _ c.in_ok-done.ensures.answer (rw c.last_pos.ensures at c.closed.ensures.answer)
+
+pub let_form-returns-in_err-bound-clause-answer : goal.let_form-returns-in_err-bound-clause-answer
+let_form-returns-in_err-bound-clause-answer t c = λ place.
+    rw c.in-Let.is (failed_first c.in_err-bound.field-0.0 bound_of typed_of _ _ _ _ (search rules)
+    c.in_err-bound.ensures.answer)
+
+pub let_form-returns-in_err-done-clause-answer : goal.let_form-returns-in_err-done-clause-answer
+let_form-returns-in_err-done-clause-answer t c = λ place.
+    rw c.in-Let.is (made_first typed_of _ _ _ _ _ _ c.in_ok-bound.ensures.answer
+    (failed_first c.in_err-done.field-0.0 sequence_of typed_of _ _ _ _ (search rules)
+    (rw (c.as_slice.ensures.value, c.in_ok-bound.ensures.scopes) at c.in_err-done.ensures.answer)))
+
+pub all-returns-in_err-e-clause-answer : goal.all-returns-in_err-e-clause-answer
+all-returns-in_err-e-clause-answer t c =
+    rw c.in-Cons.is (failed_first c.in_err-e.field-0.0 typed_of given_of _ _ _ _ (search rules)
+    (rw c.deref.ensures at c.in_err-e.ensures.answer))
+
+pub all-returns-in_err-given-clause-answer : goal.all-returns-in_err-given-clause-answer
+all-returns-in_err-given-clause-answer t c =
+    rw c.in-Cons.is (made_first given_of _ _ _ _ _ _ (rw c.deref.ensures at c.in_ok-e.ensures.answer)
+    (failed_first c.in_err-given.field-0.0 given_of given_of _ _ _ _ (search rules)
+    (rw (c.deref-2.ensures, c.in_ok-e.ensures.scopes) at c.in_err-given.ensures.answer)))
+
+pub all-returns-clause-answer : goal.all-returns-clause-answer
+all-returns-clause-answer t c =
+    rw c.in-Cons.is (made_then _ _ _ _ _ (rw c.deref.ensures at c.in_ok-e.ensures.answer)
+    (made_then _ _ _ _ _ (rw (c.deref-2.ensures, c.in_ok-e.ensures.scopes) at c.in_ok-given.ensures.answer)
+    (ap (λ (given : Given). Makes given (work_of c.all.new.progress)) (sym c.in_ok-given_first.ensures))))
+
+pub if_form-returns-in_err-test-clause-answer : goal.if_form-returns-in_err-test-clause-answer
+if_form-returns-in_err-test-clause-answer t c =
+    rw c.in-If.is (failed_first c.in_err-test.field-0.0 typed_of typed_of _ _ _ _ (search rules)
+    (rw c.deref.ensures at c.in_err-test.ensures.answer))
+
+pub if_form-returns-in_err-truth-clause-answer : goal.if_form-returns-in_err-truth-clause-answer
+if_form-returns-in_err-truth-clause-answer t c =
+    rw c.in-If.is (made_first typed_of _ _ _ _ _ _ (rw c.deref.ensures at c.in_ok-test.ensures.answer)
+    (failed_first c.in_err-truth.field-0.0 typed_of typed_of _ _ _ _ (search rules)
+    (rw c.deref-2.ensures at c.in_err-truth.ensures.answer)))
