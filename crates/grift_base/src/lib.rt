@@ -1,6 +1,7 @@
 // What every part of the compiler and of the machine shares.
 #![tactic(auto)]
 
+pub mod environment;
 pub mod lists;
 pub mod numbers;
 pub mod operators;

@@ -10,7 +10,13 @@ ghost use Rattle.grift_base.specs.Numbers.{in_word, number_of};
 ghost use Rattle.grift_base.specs.Reading.{is_white, next_number, after_reading};
 ghost use Rattle.grift_base.specs.EnvironmentCall.{environment_call, ends, traps, reads, Called, MakesCall};
 ghost use Rattle.grift_base.specs.EnvironmentCall.{StaysUnlessNext};
+ghost use Rattle.grift_base.specs.declared.environment.TheConstants.{PRINT_INT_CALL, PRINT_BYTE_CALL};
+ghost use Rattle.grift_base.specs.declared.environment.TheConstants.{READ_INT_CALL};
 
+use crate::environment::{
+    BLAME_CALL, END_CALL, PRINT_BYTE_CALL, PRINT_INT_CALL, READ_INT_CALL, REGION_OUT_CALL,
+    STACK_OUT_CALL, TRAP_CALL,
+};
 use crate::lists::{Bytes, OutOfMemory};
 use crate::numbers::{integer, is_integer};
 use crate::verdicts::{Answer, AnswerKind, Trap};
@@ -113,22 +119,23 @@ impl World {
         ensures stays { StaysUnlessNext result self.old self.new }
     {
         match number {
-            0 => ended(a0, a1),
-            1 => self.int_printed(a0, a1),
-            2 => self.byte_printed(a0, a1),
-            3 => blamed(a0, labels),
-            4 => trapped(a0),
-            5 => EnvEffect::RegionOut,
-            6 => EnvEffect::StackOut,
-            7 => self.int_read(),
+            END_CALL => ended(a0, a1),
+            PRINT_INT_CALL => self.int_printed(a0, a1),
+            PRINT_BYTE_CALL => self.byte_printed(a0, a1),
+            BLAME_CALL => blamed(a0, labels),
+            TRAP_CALL => trapped(a0),
+            REGION_OUT_CALL => EnvEffect::RegionOut,
+            STACK_OUT_CALL => EnvEffect::StackOut,
+            READ_INT_CALL => self.int_read(),
             _ => EnvEffect::Refused,
         }
     }
 
-    // Call 1.
+    // The call that prints an integer.
     fn int_printed(&mut self, a0: u64, a1: u64) -> EnvEffect
         ensures { let printed = printing (signed_decimal (cast_signed w64 a0)) self.old in
-            MakesCall (record { effect = EnvEffect.Next a0 a1; world = printed }) 1 self.old result self.new }
+            MakesCall (record { effect = EnvEffect.Next a0 a1; world = printed }) PRINT_INT_CALL self.old result
+            self.new }
     {
         match self.print_int(a0.cast_signed()) {
             Ok(()) => EnvEffect::Next(a0, a1),
@@ -136,10 +143,11 @@ impl World {
         }
     }
 
-    // Call 2.
+    // The call that prints a byte.
     fn byte_printed(&mut self, a0: u64, a1: u64) -> EnvEffect
         ensures { let printed = printing (a0 % 256 ∷ []) self.old in
-            MakesCall (record { effect = EnvEffect.Next a0 a1; world = printed }) 2 self.old result self.new }
+            MakesCall (record { effect = EnvEffect.Next a0 a1; world = printed }) PRINT_BYTE_CALL self.old result
+            self.new }
     {
         match self.print_byte((a0 % 256) as u8) {
             Ok(()) => EnvEffect::Next(a0, a1),
@@ -147,11 +155,11 @@ impl World {
         }
     }
 
-    // Call 7.
+    // The call that reads an integer.
     fn int_read(&mut self) -> EnvEffect
         ensures { let number = next_number self.old in
-            MakesCall (record { effect = reads number; world = after_reading number self.old }) 7 self.old result
-            self.new }
+            MakesCall (record { effect = reads number; world = after_reading number self.old }) READ_INT_CALL
+            self.old result self.new }
     {
         match self.read_int() {
             Some(number) => EnvEffect::Next(number.cast_unsigned(), 0),

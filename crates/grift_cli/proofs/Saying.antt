@@ -33,22 +33,28 @@ use Rattle.compile_driver.specs.Space.{KeepsSpace}
 use Rattle.compile_driver.specs.declared.compiling.Compiled.{Compiled}
 use Rattle.blame_audit.specs.Claims.{NeverTellsBlame}
 use Rattle.grift_base.specs.Sink.{Untouched}
+use Rattle.grift_cli.specs.Aspects.{command_about}
+use Rattle.grift_cli.specs.Answers.{image_fault}
 use Rattle.grift_cli.specs.Calls.{CallSeen, PutsNothing, File, AreLoaded, AsksNothing, LoadsFiles, HasLoaded}
 use Rattle.grift_cli.specs.Calls.{file_of, input_of, source_file}
 use Rattle.grift_cli.specs.Auditing.{IsAuditFile, IsNeverBlamed, PutsAudit}
 use Rattle.grift_cli.specs.Checking.{ElaboratesFile, PutsLines}
-use Rattle.grift_cli.specs.Commands.{Command, Run, Exec, Check, Audit, Code, ImageOf, Model, IsCommand, IsGen}
+use Rattle.grift_cli.specs.Commands.{Command, Run, Exec, Check, Audit, Model, IsCommand, IsGen}
 use Rattle.grift_cli.specs.Generating.{Generates, HasGenerated}
 use Rattle.grift_cli.specs.Listing.{IsImageOf, IsShownFile, PutsShown, Shows, command_by, seen_by}
 use Rattle.grift_cli.specs.Modelling.{IsModelFile, Models}
-use Rattle.grift_cli.specs.Outcome.{IsCompiled, IsImageFile, IsOfSource, Says}
+use Rattle.grift_cli.specs.Outcome.{IsCompiled, IsImageFile, IsNoImageFile, IsOfSource, Says}
 use Rattle.grift_cli.specs.Reporting.{load_report, source_report, image_report}
 use Rattle.grift_cli.specs.Running.{RunsWell, Runs, RunsInSpace, Executes}
 use Rattle.grift_cli.specs.Runs.{run_within, printed, verdict_of_run, HasEndedBy, ComesTo}
 use Rattle.grift_cli.specs.Spaces.{ReportsSpace}
+use Rattle.grift_cli.specs.declared.aspects.Aspect.{Aspect}
+use Rattle.grift_cli.specs.declared.aspects.Aspect.TheVariants.{Summary, SafeLabels, Coercions}
 use Rattle.grift_cli.specs.declared.commands.Limits.{Limits}
 use Rattle.grift_cli.specs.declared.listings.View.{View}
 use Rattle.grift_cli.specs.declared.listings.View.TheVariants.{Listing, Bytes}
+use Rattle.grift_cli.specs.declared.reports.BadImage.{BadImage}
+use Rattle.grift_cli.specs.declared.reports.BadImage.TheVariants.{Magic, Length, Section}
 use Rattle.grift_cli.specs.declared.reports.Report.{Report}
 use Rattle.grift_cli.specs.declared.reports.Report.TheVariants.{HasVerdict, HasSpace, HasFault, Checked, Refused}
 use Rattle.grift_cli.specs.declared.reports.Report.TheVariants.{PutFailed}
@@ -160,6 +166,39 @@ says_source_fault call command text input (SourceRefused refusal) s l p f = inl 
 })
 says_source_fault call command text input SourceMemory s l p f = says_no_memory call command text input l p
 
+-- the command is about the source in this file, and reads no input
+pub record ReadsSource (command : Command) (file : List ℕ) : Type 0 where
+  pub of_source : IsOfSource command
+  pub file_is : file_of command ≡ Some (source_file file)
+  pub no_input : None ≡ input_of command
+
+-- so are those that tell an aspect of a source
+pub aspect_reads : (aspect : Aspect) (file : List ℕ) → ReadsSource (command_about aspect file) file
+aspect_reads Summary file = record { of_source = tt; file_is = refl; no_input = refl }
+aspect_reads SafeLabels file = record { of_source = tt; file_is = refl; no_input = refl }
+aspect_reads Coercions file = record { of_source = tt; file_is = refl; no_input = refl }
+
+-- and those that show a view of its image
+pub view_reads : (view : View) (file : List ℕ) → ReadsSource (command_by view file) file
+view_reads Listing file = record { of_source = tt; file_is = refl; no_input = refl }
+view_reads Bytes file = record { of_source = tt; file_is = refl; no_input = refl }
+
+-- its file was loaded
+pub source_loaded : (call : CallSeen) (command : Command) (file bytes items read : List ℕ) → ReadsSource command file
+    → IsCommand call.words command → AreLoaded call.shelf (source_file file) None items read → bytes ≡ items
+    → [] ≡ read → HasLoaded call command bytes []
+source_loaded call command file bytes items read reads is loaded e f =
+    has_loaded call command (source_file file) bytes [] items read is reads.file_is
+    (subst (λ input. AreLoaded call.shelf (source_file file) input items read) reads.no_input loaded) e f
+
+-- or it was not
+pub says_unloaded : (call : CallSeen) (command : Command) (file : List ℕ) (fault : LoadFault)
+    → ReadsSource command file → IsCommand call.words command → PutsNothing call
+    → LoadsFiles (source_file file) None (Err fault) call.shelf → Says (load_report fault) call
+says_unloaded call command file fault reads is p loads =
+    says_load_fault call command (source_file file) fault is reads.file_is p
+    (subst (λ input. LoadsFiles (source_file file) input (Err fault) call.shelf) reads.no_input loads)
+
 -- ---- a source that is compiled and run
 
 -- what was compiled is to be run
@@ -242,41 +281,32 @@ says_run_in_space call limits image input tallest report r k c e x = absurd x
 
 -- ---- an image from a file that is run
 
+-- the bytes of the file fail this test first
+no_image_file : (call : CallSeen) (file : List ℕ) (limits : Limits) (input_name : Option (List ℕ))
+    (bytes input : List ℕ) (fault : BadImage) → HasLoaded call (Exec file limits input_name) bytes input
+    → PutsNothing call → IsFirstFault bytes (image_fault fault) → IsNoImageFile call fault
+no_image_file call file limits input_name bytes input fault l p first = record {
+  file = file;
+  limits = limits;
+  input_name = input_name;
+  bytes = bytes;
+  input = input;
+  loaded = l;
+  first = first;
+  nothing = p;
+}
+
 -- the file holds no image
 pub says_image_fault : (call : CallSeen) (file : List ℕ) (limits : Limits) (input_name : Option (List ℕ))
     (bytes input : List ℕ) (fault : ImageFault) → HasLoaded call (Exec file limits input_name) bytes input
     → PutsNothing call → (fault ≢ ImageMemory → IsFirstFault bytes fault)
     → Says (image_report fault) call
-says_image_fault call file limits input_name bytes input BadMagic l p f = record {
-  file = file;
-  limits = limits;
-  input_name = input_name;
-  bytes = bytes;
-  input = input;
-  loaded = l;
-  first = f (λ e. cc);
-  nothing = p;
-}
-says_image_fault call file limits input_name bytes input BadLength l p f = record {
-  file = file;
-  limits = limits;
-  input_name = input_name;
-  bytes = bytes;
-  input = input;
-  loaded = l;
-  first = f (λ e. cc);
-  nothing = p;
-}
-says_image_fault call file limits input_name bytes input BadSection l p f = record {
-  file = file;
-  limits = limits;
-  input_name = input_name;
-  bytes = bytes;
-  input = input;
-  loaded = l;
-  first = f (λ e. cc);
-  nothing = p;
-}
+says_image_fault call file limits input_name bytes input BadMagic l p f =
+    no_image_file call file limits input_name bytes input Magic l p (f (λ e. cc))
+says_image_fault call file limits input_name bytes input BadLength l p f =
+    no_image_file call file limits input_name bytes input Length l p (f (λ e. cc))
+says_image_fault call file limits input_name bytes input BadSection l p f =
+    no_image_file call file limits input_name bytes input Section l p (f (λ e. cc))
 says_image_fault call file limits input_name bytes input ImageMemory l p f =
     says_no_memory call (Exec file limits input_name) bytes input l p
 
@@ -373,29 +403,6 @@ pub shows_image : (view : View) (file text image : List ℕ) → IsImageOf text 
     → Shows (command_by view file) text (seen_by view image)
 shows_image Listing file text image i = record { image = image; image_of = i; bytes_are = refl }
 shows_image Bytes file text image i = record { image = image; image_of = i; bytes_are = refl }
-
--- the command that shows it is about a source
-pub view_of_source : (view : View) (file : List ℕ) → IsOfSource (command_by view file)
-view_of_source Listing file = tt
-view_of_source Bytes file = tt
-
--- its file was loaded
-pub view_loaded : (call : CallSeen) (view : View) (file bytes items read : List ℕ)
-    → IsCommand call.words (command_by view file) → AreLoaded call.shelf (source_file file) None items read
-    → bytes ≡ items → [] ≡ read → HasLoaded call (command_by view file) bytes []
-view_loaded call Listing file bytes items read is loaded e f =
-    has_loaded call (Code file) (source_file file) bytes [] items read is refl loaded e f
-view_loaded call Bytes file bytes items read is loaded e f =
-    has_loaded call (ImageOf file) (source_file file) bytes [] items read is refl loaded e f
-
--- or it was not
-pub says_view_fault : (call : CallSeen) (view : View) (file : List ℕ) (fault : LoadFault)
-    → IsCommand call.words (command_by view file) → PutsNothing call
-    → LoadsFiles (source_file file) None (Err fault) call.shelf → Says (load_report fault) call
-says_view_fault call Listing file fault is p loads =
-    says_load_fault call (Code file) (source_file file) fault is refl p loads
-says_view_fault call Bytes file fault is p loads =
-    says_load_fault call (ImageOf file) (source_file file) fault is refl p loads
 
 -- what is shown of the source is put
 pub says_shown : (call : CallSeen) (bytes : List ℕ) (report : Report) → IsShownFile call bytes

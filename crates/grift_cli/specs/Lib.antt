@@ -4,6 +4,7 @@ pub mod Commands
 pub mod ReadCommands
 pub mod Answers
 pub mod Calls
+pub mod Aspects
 pub mod Checking
 pub mod Auditing
 pub mod Modelling

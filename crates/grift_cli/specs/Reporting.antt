@@ -1,6 +1,6 @@
 -- Statuses and lines of reports, and how a call is answered.
-use Rattle.std.specs.Prelude.{ℕ, false, ◌-◌, ◌≡◌, ◌⊎◌, List, ◌++◌, codes, length, replicate}
-use Rattle.std.specs.Fmt.{decimal, digits}
+use Rattle.std.specs.Prelude.{ℕ, ◌≡◌, ◌⊎◌, List, ◌++◌, codes}
+use Rattle.std.specs.Fmt.{decimal}
 use Rattle.assembler.specs.declared.image.ImageFault.{ImageFault}
 use Rattle.assembler.specs.declared.image.ImageFault.TheVariants.{BadMagic, BadLength, BadSection}
 use Rattle.assembler.specs.declared.image.ImageFault.TheVariants.{OutOfMemory as ImageMemory}
@@ -20,6 +20,7 @@ use Rattle.grift_base.specs.declared.sinks.SinkFault.{SinkFault}
 use Rattle.grift_base.specs.declared.sinks.SinkFault.TheVariants.{Failed as SinkFailed, OutOfMemory as SinkMemory}
 use Rattle.machine_words.specs.declared.faults.MachineFault.{MachineFault}
 use Rattle.machine_words.specs.declared.faults.MachineFault.TheVariants.{Undefined, BadAddress, Misaligned}
+use Rattle.listing.specs.CodeLines.{hex_text}
 use Rattle.grift_cli.specs.Calls.{CallSeen}
 use Rattle.grift_cli.specs.Lines.{number_line}
 use Rattle.grift_cli.specs.Outcome.{Says}
@@ -63,14 +64,10 @@ refusal_line r =
     codes "refused " ++ refusal_text r.kind ++ codes " " ++ decimal r.pos.line ++ codes ":" ++ decimal r.pos.col
     ++ codes "\n"
 
--- an address in hexadecimal digits, at least eight of them
-abbrev pub address_text : ℕ → List ℕ
-address_text address = let text = digits 16 false address in replicate (8 - length text) 48 ++ text
-
 abbrev pub fault_line : MachineFault → List ℕ
-fault_line (Undefined pc) = codes "machine undefined " ++ address_text pc ++ codes "\n"
-fault_line (BadAddress pc) = codes "machine address " ++ address_text pc ++ codes "\n"
-fault_line (Misaligned pc) = codes "machine misaligned " ++ address_text pc ++ codes "\n"
+fault_line (Undefined pc) = codes "machine undefined " ++ hex_text pc ++ codes "\n"
+fault_line (BadAddress pc) = codes "machine address " ++ hex_text pc ++ codes "\n"
+fault_line (Misaligned pc) = codes "machine misaligned " ++ hex_text pc ++ codes "\n"
 
 abbrev pub bad_image_line : BadImage → List ℕ
 bad_image_line Magic = codes "bad image magic\n"

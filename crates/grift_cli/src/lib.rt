@@ -1,6 +1,7 @@
 // Compiles a file and runs it, between a shelf and sinks.
 #![tactic(auto)]
 
+mod aspects;
 mod audits;
 mod checks;
 pub mod commands;

@@ -1,11 +1,12 @@
 // What a call of the program reports.
 
-ghost use Rattle.std.specs.Prelude.{◌≡◌, ◌++◌, codes, string_bytes, IfOk, OnErr, OnOk};
-ghost use Rattle.grift_cli.specs.Reporting.{report_status, report_line, address_text, fault_line, bad_image_line};
+ghost use Rattle.std.specs.Prelude.{◌≡◌, ◌++◌, codes, IfOk, OnErr, OnOk};
+ghost use Rattle.grift_cli.specs.Reporting.{report_status, report_line, fault_line, bad_image_line};
 ghost use Rattle.grift_cli.specs.Reporting.{bytes_of_line, IsMadeLine, refusal_line, load_report, source_report};
 ghost use Rattle.grift_base.specs.VerdictLine.{verdict_text};
 ghost use Rattle.grift_cli.specs.Reporting.{image_report, fault_status, verdict_status, space_lines};
 ghost use Rattle.grift_cli.specs.Lines.{number_line};
+ghost use Rattle.listing.specs.CodeLines.{hex_text};
 
 use assembler::image::ImageFault;
 use grift_base::lists::{OutOfMemory, Text};
@@ -14,6 +15,7 @@ use grift_base::shelves::LoadFault;
 use grift_base::sinks::SinkFault;
 use grift_base::verdicts::{Verdict, verdict_line};
 use itoa::Buffer;
+use listing::lines::hex_text;
 use machine_words::faults::MachineFault;
 use object_layout::walks::SpaceReport;
 use std::alloc::Global;
@@ -180,20 +182,12 @@ fn fault_line(alloc: Global, fault: MachineFault) -> Result<Text, OutOfMemory>
 
 // The line of these words and an address.
 fn address_line(alloc: Global, words: &[u8], address: u64) -> Result<Text, OutOfMemory>
-    ensures { IfOk result (λ line. line ≡ words.now ++ address_text address ++ codes "\n") }
+    ensures { IfOk result (λ line. line ≡ words.now ++ hex_text address ++ codes "\n") }
 {
     let mut line = Text::from_slice(alloc, words)?;
-    line.extend(address_text(alloc, address)?.as_bytes())?;
+    line.extend(hex_text(alloc, address)?.as_bytes())?;
     line.extend(b"\n")?;
     Ok(line)
-}
-
-// An address in hexadecimal digits, at least eight of them.
-fn address_text(alloc: Global, address: u64) -> Result<String, OutOfMemory>
-    ensures { IfOk result (λ text. string_bytes text ≡ address_text address) }
-{
-    let text = format!(in alloc; "{address:08x}")?;
-    Ok(text)
 }
 
 // The line of a file that holds no image.

@@ -1,15 +1,17 @@
 // The top call: all that the program does.
 
-ghost use Rattle.std.specs.Prelude.{◌≡◌, ℕ, List, Option, codes, map, string_bytes};
+ghost use Rattle.std.specs.Prelude.{◌≡◌, ℕ, List, Option, map, string_bytes};
 ghost use Rattle.grift_base.specs.Shelf.{shelf_seen};
 ghost use Rattle.grift_base.specs.Sink.{SinkSeen, Untouched, sink_seen};
 ghost use Rattle.rv_machine.specs.Start.{IsRegionSize, IsStackSize};
-ghost use Rattle.grift_cli.specs.Commands.{IsRun, IsExec, IsOfFile, IsModel, IsCommand};
+ghost use Rattle.grift_cli.specs.Aspects.{command_about};
+ghost use Rattle.grift_cli.specs.Commands.{IsRun, IsExec, IsModel, IsCommand};
 ghost use Rattle.grift_cli.specs.Listing.{command_by};
 ghost use Rattle.grift_cli.specs.Outcome.{Says};
 ghost use Rattle.grift_cli.specs.ReadCommands.{name_bytes};
 ghost use Rattle.grift_cli.specs.Reporting.{PutsLine, PutsReport, IsAnswered, report_line, report_status};
 
+use crate::aspects::Aspect;
 use crate::audits::put_audit;
 use crate::checks::put_lines;
 use crate::commands::{Command, Limits, read_words};
@@ -99,9 +101,9 @@ fn report_of_call<S: Shelf, O: Sink, I: Sink>(
             };
             report_of_exec(alloc, file, input, limits, shelf, out)
         }
-        Command::Check { file } => report_of_check(alloc, file, shelf, out),
-        Command::Audit { file } => report_of_audit(alloc, file, shelf, out),
-        Command::Casts { file } => report_of_casts(alloc, file, shelf, out),
+        Command::Check { file } => report_of_aspect(alloc, Aspect::Summary, file, shelf, out),
+        Command::Audit { file } => report_of_aspect(alloc, Aspect::SafeLabels, file, shelf, out),
+        Command::Casts { file } => report_of_aspect(alloc, Aspect::Coercions, file, shelf, out),
         Command::Code { file } => report_of_view(alloc, View::Listing, file, shelf, out),
         Command::ImageOf { file } => report_of_view(alloc, View::Bytes, file, shelf, out),
         Command::Model { file, steps, input } => {
@@ -177,14 +179,16 @@ fn report_of_exec<S: Shelf, O: Sink>(
     }
 }
 
-// The report of a call that elaborates the source in this file.
-fn report_of_check<S: Shelf, O: Sink>(
+// The report of a call that elaborates the source in this file and puts one aspect of it.
+fn report_of_aspect<S: Shelf, O: Sink>(
     alloc: Global,
+    aspect: Aspect,
     file: &str,
     shelf: &mut S,
     out: &mut O,
 ) -> Report
-    ensures { (words : List (List ℕ)) (img : SinkSeen) → IsOfFile (codes "check") words file.now → Untouched img
+    ensures { (words : List (List ℕ)) (img : SinkSeen) → IsCommand words (command_about aspect file.now)
+        → Untouched img
         → Says result (record {
           words = words;
           shelf = shelf_seen S.holds S.asked S.fault_count shelf.old shelf.new;
@@ -197,57 +201,11 @@ fn report_of_check<S: Shelf, O: Sink>(
         Err(fault) => return report_of_load(fault),
     };
     match elaborate_text(alloc, loaded.bytes.as_slice()) {
-        Ok(done) => put_lines(alloc, &done, out),
-        Err(fault) => report_of_source(fault),
-    }
-}
-
-// The report of a call that audits the source in this file.
-fn report_of_audit<S: Shelf, O: Sink>(
-    alloc: Global,
-    file: &str,
-    shelf: &mut S,
-    out: &mut O,
-) -> Report
-    ensures { (words : List (List ℕ)) (img : SinkSeen) → IsOfFile (codes "audit") words file.now → Untouched img
-        → Says result (record {
-          words = words;
-          shelf = shelf_seen S.holds S.asked S.fault_count shelf.old shelf.new;
-          out = sink_seen O.written O.fault_count out.old out.new;
-          img = img;
-        }) }
-{
-    let loaded = match load_files(alloc, shelf, file, SOURCE_LIMIT, None) {
-        Ok(loaded) => loaded,
-        Err(fault) => return report_of_load(fault),
-    };
-    match elaborate_text(alloc, loaded.bytes.as_slice()) {
-        Ok(done) => put_audit(alloc, &done, out),
-        Err(fault) => report_of_source(fault),
-    }
-}
-
-// The report of a call that puts the casts of the source in this file.
-fn report_of_casts<S: Shelf, O: Sink>(
-    alloc: Global,
-    file: &str,
-    shelf: &mut S,
-    out: &mut O,
-) -> Report
-    ensures { (words : List (List ℕ)) (img : SinkSeen) → IsOfFile (codes "casts") words file.now → Untouched img
-        → Says result (record {
-          words = words;
-          shelf = shelf_seen S.holds S.asked S.fault_count shelf.old shelf.new;
-          out = sink_seen O.written O.fault_count out.old out.new;
-          img = img;
-        }) }
-{
-    let loaded = match load_files(alloc, shelf, file, SOURCE_LIMIT, None) {
-        Ok(loaded) => loaded,
-        Err(fault) => return report_of_load(fault),
-    };
-    match elaborate_text(alloc, loaded.bytes.as_slice()) {
-        Ok(done) => put_casts(alloc, &done, out),
+        Ok(done) => match aspect {
+            Aspect::Summary => put_lines(alloc, &done, out),
+            Aspect::SafeLabels => put_audit(alloc, &done, out),
+            Aspect::Coercions => put_casts(alloc, &done, out),
+        },
         Err(fault) => report_of_source(fault),
     }
 }

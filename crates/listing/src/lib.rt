@@ -5,6 +5,6 @@ pub mod casts;
 pub mod code;
 pub mod instructions;
 pub mod laws;
-mod lines;
+pub mod lines;
 pub mod reading;
 mod rooms;

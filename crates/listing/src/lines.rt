@@ -7,8 +7,8 @@ use crate::instructions::write_instruction;
 use grift_base::lists::{OutOfMemory, Text};
 use std::alloc::Global;
 
-// A number in hexadecimal digits, at least eight of them.
-fn hex_text(alloc: Global, n: u64) -> Result<String, OutOfMemory>
+/// A number in hexadecimal digits, at least eight of them. `OutOfMemory` comes where no memory is left for it.
+pub fn hex_text(alloc: Global, n: u64) -> Result<String, OutOfMemory>
     ensures { IfOk result (λ text. string_bytes text ≡ hex_text n) }
 {
     let text = format!(in alloc; "{n:08x}")?;

@@ -10,6 +10,8 @@ use Rattle.grift_base.specs.declared.operators.PrimOp.TheVariants.{Unbox, BoxSet
 use Rattle.grift_base.specs.declared.operators.PrimOp.TheVariants.{VectorLength}
 use Rattle.grift_base.specs.declared.verdicts.Trap.TheVariants.{Input}
 use Rattle.grift_base.specs.Trap.{trap_number}
+use Rattle.grift_base.specs.declared.environment.TheConstants.{PRINT_INT_CALL, PRINT_BYTE_CALL}
+use Rattle.grift_base.specs.declared.environment.TheConstants.{READ_INT_CALL, TRAP_CALL}
 use Rattle.object_layout.specs.declared.kinds.Kind.TheVariants.{Closure, Tuple as TupleKind, Boxed}
 use Rattle.object_layout.specs.Kinds.{kind_number}
 use Rattle.machine_words.specs.declared.conditions.Cond.TheVariants.{Eq, Ne}
@@ -25,7 +27,6 @@ use Rattle.flat_ir.specs.declared.code.Operation.{Operation}
 use Rattle.flat_ir.specs.declared.code.Operation.TheVariants.{Move, Prim, Cast, Tuple, Proj, ProjDyn}
 use Rattle.flat_ir.specs.Bodies.{Body, Give, Call, Choose, LetBody, LetGroup}
 use Rattle.rt_cast.specs.Words.{count_unit, kind_mask, tag_bits, tag_mask}
-use Rattle.rt_refs.specs.TrapCodes.{trap_call}
 use Rattle.rt_refs.specs.CellCodes.{asks_box, asks_element, asks_length}
 use Rattle.rt_refs.specs.Quotients.{asks_quotient, asks_remainder}
 use Rattle.lower.specs.declared.numbering.Shape.{Shape}
@@ -33,9 +34,12 @@ use Rattle.lower.specs.declared.served.CastWay.{CastWay}
 use Rattle.lower.specs.declared.served.CastWay.TheVariants.{Called, IntoDyn, OutOfDyn}
 use Rattle.lower.specs.declared.served.Served.{Served}
 use Rattle.lower.specs.CastWays.{tag_number, way_at}
-use Rattle.lower.specs.EnvironmentCalls.{print_int_call, print_byte_call, read_int_call, line_feed}
 use Rattle.lower.specs.Numbering.{own_word, operand_word, test_word, local_word, function_offset}
 use Rattle.lower.specs.Numbering.{captured_offset}
+
+-- the byte that ends a line
+abbrev line_feed : ℕ
+line_feed = 10
 
 -- the header of an object of a kind with so many words, height 0
 abbrev pub header : ℕ → ℕ → ℕ
@@ -112,9 +116,9 @@ turned d k = Compute Xor d (Word d) (Number 1) k
 -- the next number of the input is put into a word; where there is none, the program traps
 abbrev pub read_number : Shape → ℕ → Code → Code
 read_number s d k =
-    Environment read_int_call (Number 0) (Number 0) (operand_word s 0) (test_word s) (
+    Environment READ_INT_CALL (Number 0) (Number 0) (operand_word s 0) (test_word s) (
     If Ne (Word (test_word s)) (Number 0)
-    (Environment trap_call (Number (trap_number Input)) (Number 0) (test_word s) (test_word s) Done) Done (
+    (Environment TRAP_CALL (Number (trap_number Input)) (Number 0) (test_word s) (test_word s) Done) Done (
     Set d (Word (operand_word s 0)) k))
 
 -- a source by its place; of an operand that isn't there, which no program lacks, it is 0
@@ -140,9 +144,9 @@ module _ (run : Served) where
   operator s d Equal a b c k = Compute Xor d a b (Compute Sltu d (Word d) (Number 1) k)
   operator s d Not a b c k = Compute Xor d a (Number 1) k
   operator s d PrintInt a b c k =
-      Environment print_int_call a (Number 0) (test_word s) (test_word s) (Set d (Number 0) k)
+      Environment PRINT_INT_CALL a (Number 0) (test_word s) (test_word s) (Set d (Number 0) k)
   operator s d Newline a b c k =
-      Environment print_byte_call (Number line_feed) (Number 0) (test_word s) (test_word s) (Set d (Number 0) k)
+      Environment PRINT_BYTE_CALL (Number line_feed) (Number 0) (test_word s) (test_word s) (Set d (Number 0) k)
   operator s d ReadInt a b c k = read_number s d k
   operator s d MakeBox a b c k = Build d (Number (header (kind_number Boxed) 1) ∷ a ∷ []) k
   operator s d Unbox a b c k =

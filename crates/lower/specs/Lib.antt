@@ -1,6 +1,5 @@
 pub mod Numbering
 pub mod CastWays
-pub mod EnvironmentCalls
 pub mod Emit
 pub mod Lowered
 pub mod Steps

@@ -1,5 +1,6 @@
 -- The procedures over words of a flat program.
 use Rattle.std.specs.Prelude.{ℕ, suc, ◌+◌, List, [], ◌∷◌, ◌++◌, map}
+use Rattle.grift_base.specs.declared.environment.TheConstants.{END_CALL}
 use Rattle.grift_base.specs.declared.verdicts.AnswerKind.TheVariants.{Int, Bool, Unit, Function, Tuple, Boxed, Vector}
 use Rattle.grift_base.specs.AnswerKind.{answer_kind_number}
 use Rattle.object_layout.specs.declared.kinds.Kind.TheVariants.{IntType, BoolType, UnitType, FunType, TupleType}
@@ -16,7 +17,6 @@ use Rattle.flat_ir.specs.Levels.{levels}
 use Rattle.lower.specs.declared.numbering.Shape.{Shape}
 use Rattle.lower.specs.declared.served.Served.{Served}
 use Rattle.rt_cast.specs.Words.{kind_mask, tag_bits, tag_mask, type_over_tag}
-use Rattle.lower.specs.EnvironmentCalls.{end_call}
 use Rattle.lower.specs.Emit.{ToCaller, emit}
 
 abbrev pub shape_of : FlatProc → Shape
@@ -34,7 +34,7 @@ low_proc run p = record {
 
 -- the run ends with an answer of a kind and a word; behind it stands what is never done
 abbrev pub ends : ℕ → LowSource → Code
-ends kind w = Environment end_call (Number kind) w 1 1 (Return (Number 0))
+ends kind w = Environment END_CALL (Number kind) w 1 1 (Return (Number 0))
 
 -- of a value in Dyn that has parts: what it is is told by the kind of its type, which is in word 1
 abbrev pub show_compound : Code

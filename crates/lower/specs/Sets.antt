@@ -11,7 +11,7 @@ use Rattle.rt_refs.specs.RefProcs.{ref_procs, ref_place}
 use Rattle.lower.specs.declared.served.CastWay.{CastWay}
 use Rattle.lower.specs.declared.served.ProcSet.{ProcSet}
 use Rattle.lower.specs.declared.served.Served.{Served}
-use Rattle.lower.specs.EnvironmentCalls.{region_out_call, stack_out_call}
+use Rattle.grift_base.specs.declared.environment.TheConstants.{REGION_OUT_CALL, STACK_OUT_CALL}
 use Rattle.lower.specs.Serving.{Serve}
 
 -- the procedures of a set stand in a program, numbered from a first number on
@@ -20,7 +20,7 @@ StandFrom procs first set = (k : ℕ) (p : Proc) → slice_get set k ≡ Some p 
 
 -- no procedure gives up for want of room by itself, so where a run stops for want of room, room is wanting
 abbrev pub GiveUpNowhere : List Proc → Type 0
-GiveUpNowhere procs = (any_calls region_out_call procs ≡ false) × (any_calls stack_out_call procs ≡ false)
+GiveUpNowhere procs = (any_calls REGION_OUT_CALL procs ≡ false) × (any_calls STACK_OUT_CALL procs ≡ false)
 
 -- Wherever a set stands in a program, those of its procedures that have a number in `numbers` serve, and all of them
 -- are closed; none gives up for want of room. Its last two are those of products and quotients.

@@ -12,8 +12,8 @@ ghost use Rattle.low_ir.specs.Views.{code_of, proc_of};
 ghost use Rattle.lower.specs.Lowered.{ends, entry_proc, open_object, open_small, show_by, show_compound, show_kept};
 ghost use Rattle.lower.specs.Steps.{Adds};
 
-use crate::environment_calls::END_CALL;
 use crate::steps::{Step, Steps};
+use grift_base::environment::END_CALL;
 use grift_base::lists::OutOfMemory;
 use grift_base::verdicts::AnswerKind;
 use low_ir::code::LowSource::{Number, Word};

@@ -5,7 +5,6 @@ mod answers;
 mod bodies;
 mod casts;
 pub mod copies;
-mod environment_calls;
 mod groups;
 pub mod laws;
 pub mod lowering;

@@ -14,12 +14,12 @@ ghost use Rattle.lower.specs.Emit.{source_at, turned};
 ghost use Rattle.lower.specs.Numbering.{operand_word, test_word};
 ghost use Rattle.lower.specs.Steps.{put, Adds};
 
-use crate::environment_calls::{PRINT_BYTE_CALL, PRINT_INT_CALL, READ_INT_CALL, TRAP_CALL};
 use crate::numbering::{Shape, TEST_PLACE};
 use crate::operands::{fetch, fetch_all};
 use crate::served::Served;
 use crate::steps::{Step, Steps};
 use flat_ir::code::{Operand, Operands, Operation};
+use grift_base::environment::{PRINT_BYTE_CALL, PRINT_INT_CALL, READ_INT_CALL, TRAP_CALL};
 use grift_base::lists::OutOfMemory;
 use grift_base::operators::PrimOp;
 use grift_base::places::LabelId;

@@ -3,6 +3,7 @@
 use Rattle.std.proofs.Common.{◌≡◌, inl, ℕ, ◌+◌, ◌*◌, ◌-◌, ◌≤◌, true, List, []}
 use Rattle.std.proofs.Common.{length, Some, refl, ap, ◌∙◌, arith, slice_get}
 use Rattle.std.specs.Prelude.{◌==◌, ◌&&◌, nat_le, if◌then◌else◌}
+use Rattle.grift_base.specs.declared.environment.TheConstants.{BLAME_CALL}
 use Rattle.grift_base.specs.World.{WorldState}
 use Rattle.grift_base.specs.EnvironmentCall.{environment_call}
 use Rattle.grift_base.specs.declared.places.Pos.{Pos}
@@ -138,7 +139,7 @@ module _ (setting : Setting) (l : Layout) (procs : List Proc) (casts : List Type
     stops =
         (let t = at s.world h s.waiting 6 rests locals (Environment 3 (Word 3) (Number 0) 4 5 (Return (Number 0))) in
         let inside = lt_true label (length setting.labels) (in_front setting.labels [] label place found) in
-        let called : environment_call 3 label 0 (length setting.labels) s.world
+        let called : environment_call BLAME_CALL label 0 (length setting.labels) s.world
         ≡ record { effect = Blamed label; world = s.world } =
         calls_blame label 0 (length setting.labels) s.world
         ∙ ap (λ z. record { effect = if z then Blamed label else Refused; world = s.world }) inside in

@@ -10,6 +10,7 @@ ghost use Rattle.low_ir.specs.Views.{code_of, proc_of, procs_of};
 ghost use Rattle.piled_scheme.specs.Codes.{blame_part, cast_proc, idle_proc, in_vector, look, piled_procs};
 ghost use Rattle.piled_scheme.specs.Codes.{read_proc, set_proc, unbox_proc, write_proc};
 
+use grift_base::environment::TRAP_CALL;
 use grift_base::lists::OutOfMemory;
 use grift_base::verdicts::Trap;
 use low_ir::code::LowSource::{Number, Word};
@@ -26,9 +27,6 @@ use std::alloc::Global;
 
 // The kind of wrappers, which no other object has.
 const WRAPPER: u64 = 25;
-
-// The environment call that traps.
-const TRAP_CALL: u64 = 4;
 
 // A procedure of this code.
 fn proc(params: u32, words: u32, code: LowCode) -> LowProc

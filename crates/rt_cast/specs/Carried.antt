@@ -1,6 +1,7 @@
 -- Which word carries which value of the merged mode, over what holds what stands under proxies; and what it is for a
 -- cast to come to its outcome.
 use Rattle.std.specs.Prelude.{◌≡◌, ◌⊎◌, ℕ, ◌^◌, ◌<◌, ◌≤◌, false, List, [], ◌∷◌, length, Some}
+use Rattle.grift_base.specs.declared.environment.TheConstants.{BLAME_CALL}
 use Rattle.grift_base.specs.Types.{is_dyn}
 use Rattle.run_laws.specs.Runs.{Ending}
 use Rattle.run_laws.specs.Machines.{Reaches}
@@ -17,7 +18,6 @@ use Rattle.coercion_norm.specs.Normal.{IsNormal}
 use Rattle.coercion_norm.specs.Objects.{Object, Fixed}
 use Rattle.coercion_norm.specs.Held.{Layout, There, Held, rows_in, height_in}
 use Rattle.coercion_norm.specs.ObjectsOfRows.{header}
-use Rattle.rt_cast.specs.Words.{blame_call}
 use Rattle.rt_cast.specs.DynWords.{IsDyn}
 use Rattle.rt_cast.specs.WholeObjects.{IsSolid}
 use Rattle.rt_cast.specs.States.{Grows, Fine, OnTheWay, Within, around, heap_of, entered}
@@ -91,7 +91,7 @@ module _ (l : Layout) where
       pub d : ℕ
       pub e : ℕ
       pub rest : Code
-      pub code : t.active.code ≡ Environment blame_call a b d e rest
+      pub code : t.active.code ≡ Environment BLAME_CALL a b d e rest
       pub is : word_of t.active.locals a ≡ Some label
       pub other : word_of t.active.locals b ≡ Some 0
       pub first : d < t.active.count

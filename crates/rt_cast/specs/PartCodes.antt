@@ -1,5 +1,6 @@
 -- What the procedures share: heights of objects, and middles that are made part by part.
 use Rattle.std.specs.Prelude.{ℕ, zero, suc, ◌+◌, ◌*◌, List, [], ◌∷◌}
+use Rattle.grift_base.specs.declared.environment.TheConstants.{BLAME_CALL}
 use Rattle.machine_words.specs.declared.conditions.Cond.{Cond}
 use Rattle.machine_words.specs.declared.conditions.Cond.TheVariants.{Eq, Ltu}
 use Rattle.object_layout.specs.declared.kinds.Kind.TheVariants.{Fun, Tup, Project}
@@ -9,7 +10,7 @@ use Rattle.low_ir.specs.declared.code.LowSource.TheVariants.{Word, Number}
 use Rattle.low_ir.specs.declared.code.WordOp.TheVariants.{Add, And, Sll, Srl, Sltu}
 use Rattle.low_ir.specs.Procedures.{Code, Done, Set, Compute, Load, Build, Environment, Call, If, Return, TailCall}
 use Rattle.low_ir.specs.Procedures.{Proc}
-use Rattle.rt_cast.specs.Words.{kind_mask, height_bits, height_mask, count_unit, blame_call}
+use Rattle.rt_cast.specs.Words.{kind_mask, height_bits, height_mask, count_unit}
 
 abbrev pub proc : ℕ → ℕ → Code → Proc
 proc params words code = record { params = params; words = words; code = code }
@@ -24,7 +25,7 @@ put_header d low rest = Compute Sll d (Word d) (Number height_bits) (Compute Add
 
 -- a label is blamed
 abbrev pub blame_code : LowSource → Code
-blame_code label = Environment blame_call label (Number 0) 4 5 (Return (Number 0))
+blame_code label = Environment BLAME_CALL label (Number 0) 4 5 (Return (Number 0))
 
 -- words 0 and 1 are a height, and an object or 0: the greater of the height and the object's
 abbrev pub raise_code : Code

@@ -51,9 +51,3 @@ tag_mask = 7
 
 abbrev pub word_shift : ℕ
 word_shift = 3
-
--- ---- calls of the environment
-
--- a label is blamed
-abbrev pub blame_call : ℕ
-blame_call = 3

@@ -5,7 +5,8 @@ ghost use Rattle.low_ir.specs.Procedures.{Set, Compute, Load, Build, Call, If, T
 ghost use Rattle.low_ir.specs.Views.{code_of};
 ghost use Rattle.rt_cast.specs.PartCodes.{either, put_header, blame_code};
 
-use crate::words::{BLAME_CALL, HEIGHT_BITS};
+use crate::words::HEIGHT_BITS;
+use grift_base::environment::BLAME_CALL;
 use grift_base::lists::OutOfMemory;
 use low_ir::code::LowSource::{Number, Word};
 use low_ir::code::{LowCode, LowSource, LowSources, WordOp};

@@ -39,9 +39,6 @@ pub const TAG_MASK: u64 = 7;
 /// A number of words, shifted by so many bits, is one of bytes.
 pub const WORD_SHIFT: u64 = 3;
 
-/// The environment call that blames a label.
-pub const BLAME_CALL: u64 = 3;
-
 /// The number of a kind.
 pub fn kind(kind: Kind) -> LowSource
     ensures { result ≡ NumberCase (kind_number kind) }

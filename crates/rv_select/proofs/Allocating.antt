@@ -2,6 +2,7 @@
 use Rattle.std.proofs.Common.{append_assoc, ℕ, suc, ◌+◌, ◌-◌, ◌*◌, ◌/◌, ◌%◌, ◌^◌, ◌<◌, ◌≤◌, ◌≡◌, inl, true, false, Bool}
 use Rattle.std.proofs.Common.{List, [], ◌∷◌, ◌++◌, Option, Some, None, refl, sym, ◌∙◌, ap, subst, arith}
 use Rattle.std.specs.Prelude.{nat_lt, nat_le, if◌then◌else◌, length}
+use Rattle.grift_base.specs.declared.environment.TheConstants.{REGION_OUT_CALL}
 use Rattle.machine_words.specs.declared.conditions.Cond.TheVariants.{Ltu}
 use Rattle.machine_words.specs.Memory.{Memory, store_bytes}
 use Rattle.machine_words.proofs.Public.{stored_outside}
@@ -14,7 +15,7 @@ use Rattle.low_ir.specs.Procedures.{Code, Build, Request, Take}
 use Rattle.low_ir.specs.Run.{LowState, word_of, words_of, and_more, with_local, sets, code_step, finds_no_room}
 use Rattle.rv_select.specs.declared.convention.TheConstants.{FIRST_SCRATCH, SECOND_SCRATCH, THIRD_SCRATCH}
 use Rattle.rv_select.specs.declared.convention.TheConstants.{FIRST_ARGUMENT, SECOND_ARGUMENT, CALL_NUMBER, STACK_END}
-use Rattle.rv_select.specs.declared.convention.TheConstants.{ALLOCATION, REGION_END, REGION_OUT_CALL}
+use Rattle.rv_select.specs.declared.convention.TheConstants.{ALLOCATION, REGION_END}
 use Rattle.rv_select.specs.declared.code.VReg.TheVariants.{Real, Virtual}
 use Rattle.rv_select.specs.declared.code.VirtualItem.{VirtualItem}
 use Rattle.rv_select.specs.declared.code.VirtualItem.TheVariants.{Constant, Move, Compute, ComputeWith, Store, Mark}

@@ -3,6 +3,7 @@ use Rattle.std.proofs.Common.{append_assoc, ℕ, zero, suc, ◌+◌, ◌-◌, �
 use Rattle.std.proofs.Common.{true, false, Bool, List, [], ◌∷◌, ◌++◌, Option, Some, None, refl, sym, ◌∙◌, ap, subst}
 use Rattle.std.proofs.Common.{arith}
 use Rattle.std.specs.Prelude.{◌==◌, ◌&&◌, ◌||◌, nat_lt, nat_le, length, slice_get, if◌then◌else◌}
+use Rattle.grift_base.specs.declared.environment.TheConstants.{END_CALL, REGION_OUT_CALL}
 use Rattle.machine_words.specs.declared.conditions.Cond.{Cond}
 use Rattle.machine_words.specs.declared.conditions.Cond.TheVariants.{Ltu}
 use Rattle.low_ir.specs.declared.code.WordOp.TheVariants.{Add, Sub, Sll, Srl}
@@ -16,7 +17,7 @@ use Rattle.low_ir.specs.Closed.{all_words, go_if, meet, then_known, behind, is_t
 use Rattle.low_ir.specs.Closed.{takes_none, is_closed, fits, reads as code_reads, names_fit, is_read, are_read}
 use Rattle.rv_select.specs.declared.convention.TheConstants.{FIRST_SCRATCH, SECOND_SCRATCH, THIRD_SCRATCH}
 use Rattle.rv_select.specs.declared.convention.TheConstants.{FIRST_ARGUMENT, SECOND_ARGUMENT, ANSWER, CALL_NUMBER}
-use Rattle.rv_select.specs.declared.convention.TheConstants.{ALLOCATION, REGION_END, END_CALL, REGION_OUT_CALL}
+use Rattle.rv_select.specs.declared.convention.TheConstants.{ALLOCATION, REGION_END}
 use Rattle.rv_select.specs.declared.code.VReg.{VReg}
 use Rattle.rv_select.specs.declared.code.VReg.TheVariants.{Real, Virtual}
 use Rattle.rv_select.specs.declared.code.VirtualItem.{VirtualItem}

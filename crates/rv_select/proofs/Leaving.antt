@@ -3,6 +3,7 @@ use Rattle.std.proofs.Common.{ℕ, suc, ◌+◌, ◌≤◌, ◌≡◌, inl, Bool
 use Rattle.std.proofs.Common.{arith}
 use Rattle.std.specs.Prelude.{◌==◌, nat_lt, nat_le, ◌&&◌, length, slice_get}
 use Rattle.std.specs.Int.{w64, cast_signed}
+use Rattle.grift_base.specs.declared.environment.TheConstants.{END_CALL}
 use Rattle.grift_base.specs.EnvironmentCall.{environment_call}
 use Rattle.grift_base.specs.declared.verdicts.Verdict.TheVariants.{Answer}
 use Rattle.grift_base.specs.declared.verdicts.AnswerKind.TheVariants.{Int as IntKind}
@@ -15,7 +16,7 @@ use Rattle.low_ir.specs.Run.{Waiting, LowState, word_of, words_of, with_local, p
 use Rattle.low_ir.specs.Run.{held_by as words_held}
 use Rattle.low_ir.specs.Prices.{leaving, step_price}
 use Rattle.rv_select.specs.declared.convention.TheConstants.{THIRD_SCRATCH, FIRST_ARGUMENT, SECOND_ARGUMENT, ANSWER}
-use Rattle.rv_select.specs.declared.convention.TheConstants.{CALL_NUMBER, END_CALL}
+use Rattle.rv_select.specs.declared.convention.TheConstants.{CALL_NUMBER}
 use Rattle.rv_select.specs.declared.code.VReg.TheVariants.{Real, Virtual}
 use Rattle.rv_select.specs.declared.code.VirtualItem.{VirtualItem}
 use Rattle.rv_select.specs.declared.code.VirtualItem.TheVariants.{Constant, Move, TailCall, TailCallAt, Return}

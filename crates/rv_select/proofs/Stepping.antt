@@ -2,6 +2,7 @@
 use Rattle.std.proofs.Common.{ℕ, suc, ◌+◌, ◌≤◌, ◌≡◌, true, false, Bool, List, [], ◌∷◌, Option, Some, None, refl, ◌∙◌}
 use Rattle.std.proofs.Common.{ap, arith}
 use Rattle.std.specs.Prelude.{nat_lt, length, slice_get}
+use Rattle.grift_base.specs.declared.environment.TheConstants.{REGION_OUT_CALL}
 use Rattle.grift_base.specs.EnvironmentCall.{Called, environment_call}
 use Rattle.run_laws.specs.Runs.{Ending, Verdict, Exhausted, Wrong, Any}
 use Rattle.run_laws.specs.Machines.{Next, Go, Stop, StopsAt, UnlessWrong}
@@ -11,7 +12,7 @@ use Rattle.low_ir.specs.Steps.{set_local, given, only_if, effect_of, settle}
 use Rattle.low_ir.specs.Procedures.{Code}
 use Rattle.low_ir.specs.Run.{LowState, with_local, goes_on}
 use Rattle.low_ir.specs.Prices.{step_price}
-use Rattle.rv_select.specs.declared.convention.TheConstants.{FIRST_ARGUMENT, SECOND_ARGUMENT, REGION_OUT_CALL}
+use Rattle.rv_select.specs.declared.convention.TheConstants.{FIRST_ARGUMENT, SECOND_ARGUMENT}
 use Rattle.rv_select.specs.declared.code.VirtualItem.{VirtualItem}
 use Rattle.rv_select.specs.Run.{Found, VirtualState, also_known, is_own, item_step, step_here}
 use Rattle.rv_select.specs.Select.{code_items}

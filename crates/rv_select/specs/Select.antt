@@ -1,6 +1,7 @@
 -- The code of a program over words. Each word of a procedure becomes a virtual register of its own; numbers that an
 -- item can't hold go through x5, x6 and x7. A part of code is told what comes behind it.
 use Rattle.std.specs.Prelude.{Bool, true, false, ℕ, zero, suc, ◌+◌, ◌*◌, List, [], ◌∷◌, ◌++◌, length}
+use Rattle.grift_base.specs.declared.environment.TheConstants.{END_CALL, REGION_OUT_CALL}
 use Rattle.machine_words.specs.declared.conditions.Cond.{Cond}
 use Rattle.machine_words.specs.declared.conditions.Cond.TheVariants.{Ltu}
 use Rattle.low_ir.specs.declared.code.WordOp.{WordOp}
@@ -13,7 +14,7 @@ use Rattle.low_ir.specs.Procedures.{Call as LowCall, CallAt as LowCallAt, If, Re
 use Rattle.low_ir.specs.Procedures.{TailCall as LowTailCall, TailCallAt as LowTailCallAt, Proc}
 use Rattle.rv_select.specs.declared.convention.TheConstants.{ZERO, FIRST_SCRATCH, SECOND_SCRATCH, THIRD_SCRATCH}
 use Rattle.rv_select.specs.declared.convention.TheConstants.{FIRST_ARGUMENT, SECOND_ARGUMENT, ANSWER, CALL_NUMBER}
-use Rattle.rv_select.specs.declared.convention.TheConstants.{ALLOCATION, REGION_END, END_CALL, REGION_OUT_CALL}
+use Rattle.rv_select.specs.declared.convention.TheConstants.{ALLOCATION, REGION_END}
 use Rattle.rv_select.specs.Run.{fits_item}
 use Rattle.rv_select.specs.declared.code.VReg.{VReg}
 use Rattle.rv_select.specs.declared.code.VReg.TheVariants.{Real, Virtual}

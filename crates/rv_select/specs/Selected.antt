@@ -1,5 +1,6 @@
 -- What the code of a program over words is to the program.
 use Rattle.std.specs.Prelude.{true, ℕ, ◌+◌, ◌%◌, ◌^◌, ◌<◌, ◌≤◌, ◌≡◌, ◌≢◌, List, ◌∷◌, length, Some, slice_get}
+use Rattle.grift_base.specs.declared.environment.TheConstants.{END_CALL}
 use Rattle.grift_base.specs.World.{WorldState}
 use Rattle.grift_base.specs.declared.verdicts.Verdict.{Verdict}
 use Rattle.run_laws.specs.Runs.{Ending, Wrong, NeverWrong, FollowsBy, Any}
@@ -16,7 +17,7 @@ use Rattle.rv_select.specs.declared.code.VReg.TheVariants.{Real}
 use Rattle.rv_select.specs.declared.code.VirtualItem.{VirtualItem}
 use Rattle.rv_select.specs.declared.code.VirtualItem.TheVariants.{Constant, Move, Procedure, Call, Environment}
 use Rattle.rv_select.specs.declared.convention.TheConstants.{FIRST_ARGUMENT, SECOND_ARGUMENT, ANSWER, CALL_NUMBER}
-use Rattle.rv_select.specs.declared.convention.TheConstants.{STACK_END, ALLOCATION, REGION_END, END_CALL}
+use Rattle.rv_select.specs.declared.convention.TheConstants.{STACK_END, ALLOCATION, REGION_END}
 use Rattle.rv_select.specs.Fitting.{each_fits}
 use Rattle.rv_select.specs.Holding.{Sets, IsHolding}
 use Rattle.rv_select.specs.Marks.{procedures, numbers_from, each_has_work, HaveOwn}

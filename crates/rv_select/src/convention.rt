@@ -1,4 +1,4 @@
-// What the real registers hold in code over registers, by their numbers, and the environment calls that it makes.
+// What the real registers hold in code over registers, by their numbers.
 
 /// Always 0.
 pub const ZERO: u8 = 0;
@@ -44,11 +44,8 @@ pub const REGION_END: u8 = 27;
 /// instruction. Code over registers names none of them.
 pub const FIRST_RESERVED: u8 = 28;
 
-/// The environment call that ends a run with an answer: its kind and its word.
-pub const END_CALL: u64 = 0;
+/// The first of the two through which words go that come from slots or go there.
+pub const FIRST_SPILL: u8 = 28;
 
-/// The one by which code gives up for want of region.
-pub const REGION_OUT_CALL: u64 = 5;
-
-/// The one by which a procedure gives up whose frame finds no room in the stack.
-pub const STACK_OUT_CALL: u64 = 6;
+/// The second of them.
+pub const SECOND_SPILL: u8 = 29;

@@ -9,9 +9,10 @@ ghost use Rattle.rv_select.specs.Select.{tail_call_at_items, out_items, answer_i
 
 use crate::code::{VReg, VirtualItem, VirtualItems};
 use crate::convention::{
-    ALLOCATION, ANSWER, CALL_NUMBER, END_CALL, FIRST_ARGUMENT, FIRST_SCRATCH, REGION_END,
-    REGION_OUT_CALL, SECOND_ARGUMENT, SECOND_SCRATCH, THIRD_SCRATCH, ZERO,
+    ALLOCATION, ANSWER, CALL_NUMBER, FIRST_ARGUMENT, FIRST_SCRATCH, REGION_END, SECOND_ARGUMENT,
+    SECOND_SCRATCH, THIRD_SCRATCH, ZERO,
 };
+use grift_base::environment::{END_CALL, REGION_OUT_CALL};
 use grift_base::lists::OutOfMemory;
 use low_ir::code::{LowSource, LowSources, WordOp};
 use machine_words::conditions::Cond;

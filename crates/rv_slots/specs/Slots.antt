@@ -4,6 +4,7 @@ use Rattle.std.specs.Prelude.{ℕ, zero, suc, ◌+◌, ◌-◌, ◌*◌, ◌/◌
 use Rattle.std.specs.Prelude.{Bool}
 use Rattle.std.specs.Prelude.{if◌then◌else◌, List, [], ◌∷◌}
 use Rattle.std.specs.Prelude.{◌++◌}
+use Rattle.grift_base.specs.declared.environment.TheConstants.{STACK_OUT_CALL}
 use Rattle.rv_isa.specs.declared.inst.Inst.{Inst}
 use Rattle.rv_isa.specs.declared.inst.Inst.TheVariants.{Jalr, Ld, Sd, Addi, Slti, Sltiu, Xori, Ori, Andi, Slli, Srli}
 use Rattle.rv_isa.specs.declared.inst.Inst.TheVariants.{Srai, Add as AddInst, Sub as SubInst, Sll as SllInst}
@@ -17,8 +18,9 @@ use Rattle.rv_machine.specs.declared.real.RealItem.TheVariants.{Branch as RealBr
 use Rattle.low_ir.specs.declared.code.WordOp.{WordOp}
 use Rattle.low_ir.specs.declared.code.WordOp.TheVariants.{Add, Sub, And, Or, Xor, Sll, Srl, Sra, Slt, Sltu}
 use Rattle.rv_select.specs.Stacks.{frame_size}
+use Rattle.rv_select.specs.declared.convention.TheConstants.{FIRST_SPILL, SECOND_SPILL}
 use Rattle.rv_select.specs.declared.convention.TheConstants.{ZERO, LINK, STACK_POINTER, CALL_NUMBER, STACK_END}
-use Rattle.rv_select.specs.declared.convention.TheConstants.{ALLOCATION, STACK_OUT_CALL}
+use Rattle.rv_select.specs.declared.convention.TheConstants.{ALLOCATION}
 use Rattle.rv_select.specs.declared.code.VReg.{VReg}
 use Rattle.rv_select.specs.declared.code.VReg.TheVariants.{Real, Virtual}
 use Rattle.rv_select.specs.declared.code.VirtualItem.{VirtualItem}
@@ -106,11 +108,12 @@ slot_fetch rd offset =
 abbrev pub slot_save_of : ℕ → ℕ → List RealItem
 slot_save_of r offset =
     if nat_lt offset 2048 then Op (Sd r STACK_POINTER (pos offset)) ∷ []
-    else word_items 29 offset ++ (Op (AddInst 29 29 STACK_POINTER) ∷ Op (Sd r 29 (pos 0)) ∷ [])
+    else word_items SECOND_SPILL offset
+    ++ (Op (AddInst SECOND_SPILL SECOND_SPILL STACK_POINTER) ∷ Op (Sd r SECOND_SPILL (pos 0)) ∷ [])
 
 -- x28 is stored there
 abbrev pub slot_save : ℕ → List RealItem
-slot_save offset = slot_save_of 28 offset
+slot_save offset = slot_save_of FIRST_SPILL offset
 
 -- a virtual register is loaded into a real one
 abbrev pub fetch_items : ℕ → ℕ → VReg → List RealItem
@@ -125,31 +128,32 @@ save_items first (Virtual v) = slot_save (slot_offset first v)
 -- a number is put where it belongs; the allocation word never has a part of one
 abbrev pub constant_items : ℕ → VReg → ℕ → List RealItem
 constant_items first (Real r) word =
-    if r == ALLOCATION then word_items 28 word ++ (Op (Addi r 28 (pos 0)) ∷ []) else word_items r word
-constant_items first (Virtual v) word = word_items 28 word ++ slot_save (slot_offset first v)
+    if r == ALLOCATION then word_items FIRST_SPILL word ++ (Op (Addi r FIRST_SPILL (pos 0)) ∷ []) else word_items r word
+constant_items first (Virtual v) word = word_items FIRST_SPILL word ++ slot_save (slot_offset first v)
 
 -- a word is moved, through x28 only from slot to slot and to the allocation word; where it is there already nothing is
 -- done
 abbrev pub move_items : ℕ → VReg → VReg → List RealItem
 move_items first (Real r) (Real a) = if r == a then [] else Op (Addi r a (pos 0)) ∷ []
 move_items first (Real r) (Virtual v) =
-    if r == ALLOCATION then slot_fetch 28 (slot_offset first v) ++ (Op (Addi r 28 (pos 0)) ∷ [])
+    if r == ALLOCATION then slot_fetch FIRST_SPILL (slot_offset first v) ++ (Op (Addi r FIRST_SPILL (pos 0)) ∷ [])
     else slot_fetch r (slot_offset first v)
 move_items first (Virtual v) (Real a) = slot_save_of a (slot_offset first v)
-move_items first (Virtual v) (Virtual u) = slot_fetch 28 (slot_offset first u) ++ slot_save (slot_offset first v)
+move_items first (Virtual v) (Virtual u) =
+    slot_fetch FIRST_SPILL (slot_offset first u) ++ slot_save (slot_offset first v)
 
 -- a frame is made where it fits above x25, told the mark behind which the stack has no room; the link goes into it
 abbrev pub enter_items : ℕ → ℕ → List RealItem
 enter_items out count =
-    word_items 28 (frame_size count)
-    ++ (Op (SubInst 29 STACK_POINTER STACK_END) ∷ RealBranch Ltu 29 28 out
-    ∷ Op (SubInst STACK_POINTER STACK_POINTER 28) ∷ Op (Sd LINK STACK_POINTER (pos 0)) ∷ [])
+    word_items FIRST_SPILL (frame_size count)
+    ++ (Op (SubInst SECOND_SPILL STACK_POINTER STACK_END) ∷ RealBranch Ltu SECOND_SPILL FIRST_SPILL out
+    ∷ Op (SubInst STACK_POINTER STACK_POINTER FIRST_SPILL) ∷ Op (Sd LINK STACK_POINTER (pos 0)) ∷ [])
 
 -- x2 is raised by so many bytes
 abbrev pub raise_items : ℕ → List RealItem
 raise_items size =
     if nat_lt size 2048 then Op (Addi STACK_POINTER STACK_POINTER (pos size)) ∷ []
-    else word_items 28 size ++ (Op (AddInst STACK_POINTER STACK_POINTER 28) ∷ [])
+    else word_items FIRST_SPILL size ++ (Op (AddInst STACK_POINTER STACK_POINTER FIRST_SPILL) ∷ [])
 
 -- the link is loaded, and the frame is given up
 abbrev pub leave_items : ℕ → List RealItem
@@ -161,29 +165,32 @@ abbrev pub expand : ℕ → ℕ → ℕ → VirtualItem → List RealItem
 expand out first count (Constant rd word) = constant_items first rd (word % 2 ^ 64)
 expand out first count (Move rd a) = move_items first rd a
 expand out first count (Compute op rd a b) =
-    fetch_items first 28 a ++ (fetch_items first 29 b
-    ++ (Op (op_inst op (register_for 28 rd) (register_for 28 a) (register_for 29 b)) ∷ save_items first rd))
+    fetch_items first FIRST_SPILL a ++ (fetch_items first SECOND_SPILL b
+    ++ (Op (op_inst op (register_for FIRST_SPILL rd) (register_for FIRST_SPILL a) (register_for SECOND_SPILL b))
+    ∷ save_items first rd))
 expand out first count (ComputeWith op rd a n) =
-    fetch_items first 28 a
-    ++ (Op (op_with op (register_for 28 rd) (register_for 28 a) n) ∷ save_items first rd)
+    fetch_items first FIRST_SPILL a
+    ++ (Op (op_with op (register_for FIRST_SPILL rd) (register_for FIRST_SPILL a) n) ∷ save_items first rd)
 expand out first count (Load rd a offset) =
-    fetch_items first 28 a
-    ++ (Op (Ld (register_for 28 rd) (register_for 28 a) (pos offset)) ∷ save_items first rd)
+    fetch_items first FIRST_SPILL a
+    ++ (Op (Ld (register_for FIRST_SPILL rd) (register_for FIRST_SPILL a) (pos offset)) ∷ save_items first rd)
 expand out first count (Store b a offset) =
-    fetch_items first 28 a ++ (fetch_items first 29 b
-    ++ (Op (Sd (register_for 29 b) (register_for 28 a) (pos offset)) ∷ []))
-expand out first count (CodeOf rd k) = Address (register_for 28 rd) k ∷ save_items first rd
+    fetch_items first FIRST_SPILL a ++ (fetch_items first SECOND_SPILL b
+    ++ (Op (Sd (register_for SECOND_SPILL b) (register_for FIRST_SPILL a) (pos offset)) ∷ []))
+expand out first count (CodeOf rd k) = Address (register_for FIRST_SPILL rd) k ∷ save_items first rd
 expand out first count (Mark mark) = RealMark mark ∷ []
 expand out first count (Procedure k first' count') = RealMark k ∷ enter_items out count'
 expand out first count (Jump mark) = RealJump ZERO mark ∷ []
 expand out first count (Branch cond a b mark) =
-    fetch_items first 28 a ++ (fetch_items first 29 b
-    ++ (RealBranch cond (register_for 28 a) (register_for 29 b) mark ∷ []))
+    fetch_items first FIRST_SPILL a ++ (fetch_items first SECOND_SPILL b
+    ++ (RealBranch cond (register_for FIRST_SPILL a) (register_for SECOND_SPILL b) mark ∷ []))
 expand out first count (Call k n) = RealJump LINK k ∷ []
-expand out first count (CallAt f n) = fetch_items first 28 f ++ (Op (Jalr LINK (register_for 28 f) (pos 0)) ∷ [])
+expand out first count (CallAt f n) =
+    fetch_items first FIRST_SPILL f ++ (Op (Jalr LINK (register_for FIRST_SPILL f) (pos 0)) ∷ [])
 expand out first count (TailCall k n) = leave_items count ++ (RealJump ZERO k ∷ [])
 expand out first count (TailCallAt f n) =
-    fetch_items first 29 f ++ (leave_items count ++ (Op (Jalr ZERO (register_for 29 f) (pos 0)) ∷ []))
+    fetch_items first SECOND_SPILL f
+    ++ (leave_items count ++ (Op (Jalr ZERO (register_for SECOND_SPILL f) (pos 0)) ∷ []))
 expand out first count Return = leave_items count ++ (Op (Jalr ZERO LINK (pos 0)) ∷ [])
 expand out first count Environment = Op Ecall ∷ []
 

@@ -11,7 +11,9 @@ ghost use Rattle.rv_select.specs.Stacks.{frame_size};
 ghost use Rattle.rv_slots.specs.Slots.{fetch_items, save_items, constant_items, move_items, raise_items};
 ghost use Rattle.rv_slots.specs.Slots.{leave_items, enter_items, negated};
 ghost use Rattle.rv_slots.specs.Slots.{final_items};
+ghost use Rattle.rv_select.specs.declared.convention.TheConstants.{FIRST_SPILL};
 
+use grift_base::environment::STACK_OUT_CALL;
 use grift_base::lists::OutOfMemory;
 use machine_words::conditions::Cond;
 use rv_isa::inst::Inst;
@@ -19,13 +21,8 @@ use rv_isa::number::{Imm12, Reg, Shift6, Upper};
 use rv_machine::real::{RealItem, RealItems};
 use rv_select::code::VReg;
 use rv_select::convention::{
-    ALLOCATION, CALL_NUMBER, LINK, STACK_END, STACK_OUT_CALL, STACK_POINTER, ZERO,
+    ALLOCATION, CALL_NUMBER, FIRST_SPILL, LINK, SECOND_SPILL, STACK_END, STACK_POINTER, ZERO,
 };
-
-// The two registers of words that come from slots or go there.
-pub(crate) const FIRST: u8 = 28;
-
-pub(crate) const SECOND: u8 = 29;
 
 // A register, by its number.
 pub(crate) fn register(number: u8) -> Reg
@@ -203,7 +200,7 @@ fn put_slot_save_of(items: &mut RealItems, word: Reg, offset: u64) -> Result<(),
             Inst::Sd(word, register(STACK_POINTER), small(offset)),
         );
     }
-    let place = register(SECOND);
+    let place = register(SECOND_SPILL);
     put_word(items, place, offset)?;
     put(items, Inst::Add(place, place, register(STACK_POINTER)))?;
     put(items, Inst::Sd(word, place, small(0)))
@@ -213,7 +210,7 @@ fn put_slot_save_of(items: &mut RealItems, word: Reg, offset: u64) -> Result<(),
 fn put_slot_save(items: &mut RealItems, offset: u64) -> Result<(), OutOfMemory>
     ensures { OnOk result (items.new ≡ items.old ++ slot_save offset) }
 {
-    put_slot_save_of(items, register(FIRST), offset)
+    put_slot_save_of(items, register(FIRST_SPILL), offset)
 }
 
 // Adds what loads a virtual register into a real one.
@@ -248,9 +245,9 @@ pub(crate) fn put_save(items: &mut RealItems, first: u32, rd: &VReg) -> Result<(
 
 // Adds what puts a number into a slot.
 fn put_in_slot(items: &mut RealItems, offset: u64, word: u64) -> Result<(), OutOfMemory>
-    ensures { OnOk result (items.new ≡ items.old ++ (word_items 28 word ++ slot_save offset)) }
+    ensures { OnOk result (items.new ≡ items.old ++ (word_items FIRST_SPILL word ++ slot_save offset)) }
 {
-    put_word(items, register(FIRST), word)?;
+    put_word(items, register(FIRST_SPILL), word)?;
     put_slot_save(items, offset)
 }
 
@@ -266,8 +263,8 @@ pub(crate) fn put_constant(
     match rd {
         VReg::Real(r) => {
             if is_allocation(*r) {
-                put_word(items, register(FIRST), word)?;
-                put(items, Inst::Addi(*r, register(FIRST), small(0)))
+                put_word(items, register(FIRST_SPILL), word)?;
+                put(items, Inst::Addi(*r, register(FIRST_SPILL), small(0)))
             } else {
                 put_word(items, *r, word)
             }
@@ -279,11 +276,12 @@ pub(crate) fn put_constant(
 // Adds what moves a word from a slot into a real register.
 fn put_from_slot(items: &mut RealItems, r: Reg, offset: u64) -> Result<(), OutOfMemory>
     ensures { OnOk result (items.new ≡ items.old
-        ++ (if r == ALLOCATION then slot_fetch 28 offset ++ (Op (Addi r 28 (pos 0)) ∷ []) else slot_fetch r offset)) }
+        ++ (if r == ALLOCATION then slot_fetch FIRST_SPILL offset ++ (Op (Addi r FIRST_SPILL (pos 0)) ∷ [])
+        else slot_fetch r offset)) }
 {
     if is_allocation(r) {
-        put_slot_fetch(items, register(FIRST), offset)?;
-        put(items, Inst::Addi(r, register(FIRST), small(0)))
+        put_slot_fetch(items, register(FIRST_SPILL), offset)?;
+        put(items, Inst::Addi(r, register(FIRST_SPILL), small(0)))
     } else {
         put_slot_fetch(items, r, offset)
     }
@@ -291,9 +289,9 @@ fn put_from_slot(items: &mut RealItems, r: Reg, offset: u64) -> Result<(), OutOf
 
 // Adds what loads x28 from the slot of a virtual register.
 fn put_first_fetch(items: &mut RealItems, first: u32, number: u32) -> Result<(), OutOfMemory>
-    ensures { OnOk result (items.new ≡ items.old ++ slot_fetch 28 (slot_offset first number)) }
+    ensures { OnOk result (items.new ≡ items.old ++ slot_fetch FIRST_SPILL (slot_offset first number)) }
 {
-    put_slot_fetch(items, register(FIRST), slot_offset(first, number))
+    put_slot_fetch(items, register(FIRST_SPILL), slot_offset(first, number))
 }
 
 // Adds what stores x28 there.
@@ -306,7 +304,7 @@ fn put_first_save(items: &mut RealItems, first: u32, number: u32) -> Result<(), 
 // Adds what moves a word from a slot to another.
 fn put_across(items: &mut RealItems, first: u32, from: u32, to: u32) -> Result<(), OutOfMemory>
     ensures { OnOk result (items.new ≡ items.old
-        ++ (slot_fetch 28 (slot_offset first from) ++ slot_save (slot_offset first to))) }
+        ++ (slot_fetch FIRST_SPILL (slot_offset first from) ++ slot_save (slot_offset first to))) }
 {
     put_first_fetch(items, first, from)?;
     put_first_save(items, first, to)
@@ -359,8 +357,8 @@ pub(crate) fn put_move(
 pub(crate) fn put_enter(items: &mut RealItems, out: u32, count: u32) -> Result<(), OutOfMemory>
     ensures { OnOk result (items.new ≡ items.old ++ enter_items out count) }
 {
-    let size = register(FIRST);
-    let free = register(SECOND);
+    let size = register(FIRST_SPILL);
+    let free = register(SECOND_SPILL);
     let stack = register(STACK_POINTER);
     put_word(items, size, frame_size(count))?;
     put(items, Inst::Sub(free, stack, register(STACK_END)))?;
@@ -373,7 +371,7 @@ pub(crate) fn put_enter(items: &mut RealItems, out: u32, count: u32) -> Result<(
 fn put_raise(items: &mut RealItems, bytes: u64) -> Result<(), OutOfMemory>
     ensures { OnOk result (items.new ≡ items.old ++ raise_items bytes) }
 {
-    let size = register(FIRST);
+    let size = register(FIRST_SPILL);
     let stack = register(STACK_POINTER);
     if bytes < 2048 {
         return put(items, Inst::Addi(stack, stack, small(bytes)));

@@ -7,10 +7,11 @@ ghost use Rattle.rv_slots.specs.Slots.{op_inst, op_with, expand, expand_all, fet
 ghost use Rattle.rv_select.specs.Marks.{marks};
 ghost use Rattle.rv_slots.specs.Slotted.{above, free_mark, HasFew, EachHasFew, IsSlotsOf};
 ghost use Rattle.rv_machine.specs.declared.real.RealItem.TheVariants.{Op};
+ghost use Rattle.rv_select.specs.declared.convention.TheConstants.{FIRST_SPILL};
 
 use crate::slot_parts::{
-    FIRST, SECOND, negated, put, put_constant, put_enter, put_fetch, put_final, put_leave,
-    put_move, put_real, put_save, register, register_for, small,
+    negated, put, put_constant, put_enter, put_fetch, put_final, put_leave, put_move, put_real,
+    put_save, register, register_for, small,
 };
 use grift_base::lists::OutOfMemory;
 use low_ir::code::WordOp;
@@ -19,7 +20,7 @@ use rv_isa::inst::Inst;
 use rv_isa::number::{Reg, Shift6};
 use rv_machine::real::{RealCode, RealItem, RealItems};
 use rv_select::code::{VReg, VirtualCode, VirtualItem};
-use rv_select::convention::{LINK, ZERO};
+use rv_select::convention::{FIRST_SPILL, LINK, SECOND_SPILL, ZERO};
 use std::alloc::Global;
 
 // The instruction of an operation.
@@ -72,13 +73,13 @@ fn put_compute(
 ) -> Result<(), OutOfMemory>
     ensures { OnOk result (items.new ≡ items.old ++ expand 0 first 0 (VirtualItem.Compute op rd.now a.now b.now)) }
 {
-    put_fetch(items, first, FIRST, a)?;
-    put_fetch(items, first, SECOND, b)?;
+    put_fetch(items, first, FIRST_SPILL, a)?;
+    put_fetch(items, first, SECOND_SPILL, b)?;
     let i = op_inst(
         op,
-        register_for(FIRST, rd),
-        register_for(FIRST, a),
-        register_for(SECOND, b),
+        register_for(FIRST_SPILL, rd),
+        register_for(FIRST_SPILL, a),
+        register_for(SECOND_SPILL, b),
     );
     put(items, i)?;
     put_save(items, first, rd)
@@ -92,9 +93,10 @@ fn put_between(
     a: &VReg,
     i: Inst,
 ) -> Result<(), OutOfMemory>
-    ensures { OnOk result (items.new ≡ items.old ++ (fetch_items first 28 a.now ++ (Op i ∷ save_items first rd.now))) }
+    ensures { OnOk result (items.new ≡ items.old ++ (fetch_items first FIRST_SPILL a.now
+        ++ (Op i ∷ save_items first rd.now))) }
 {
-    put_fetch(items, first, FIRST, a)?;
+    put_fetch(items, first, FIRST_SPILL, a)?;
     put(items, i)?;
     put_save(items, first, rd)
 }
@@ -111,7 +113,12 @@ fn put_compute_with(
     requires { fits_item op number ≡ true }
     ensures { OnOk result (items.new ≡ items.old ++ expand 0 first 0 (VirtualItem.ComputeWith op rd.now a.now number)) }
 {
-    let i = op_with(op, register_for(FIRST, rd), register_for(FIRST, a), number);
+    let i = op_with(
+        op,
+        register_for(FIRST_SPILL, rd),
+        register_for(FIRST_SPILL, a),
+        number,
+    );
     put_between(items, first, rd, a, i)
 }
 
@@ -127,8 +134,8 @@ fn put_load(
     ensures { OnOk result (items.new ≡ items.old ++ expand 0 first 0 (VirtualItem.Load rd.now a.now offset)) }
 {
     let i = Inst::Ld(
-        register_for(FIRST, rd),
-        register_for(FIRST, a),
+        register_for(FIRST_SPILL, rd),
+        register_for(FIRST_SPILL, a),
         small(u64::from(offset)),
     );
     put_between(items, first, rd, a, i)
@@ -145,11 +152,11 @@ fn put_store(
     requires { offset < 2048 }
     ensures { OnOk result (items.new ≡ items.old ++ expand 0 first 0 (VirtualItem.Store b.now a.now offset)) }
 {
-    put_fetch(items, first, FIRST, a)?;
-    put_fetch(items, first, SECOND, b)?;
+    put_fetch(items, first, FIRST_SPILL, a)?;
+    put_fetch(items, first, SECOND_SPILL, b)?;
     let i = Inst::Sd(
-        register_for(SECOND, b),
-        register_for(FIRST, a),
+        register_for(SECOND_SPILL, b),
+        register_for(FIRST_SPILL, a),
         small(u64::from(offset)),
     );
     put(items, i)
@@ -159,7 +166,7 @@ fn put_store(
 fn put_address(items: &mut RealItems, first: u32, rd: &VReg, k: u32) -> Result<(), OutOfMemory>
     ensures { OnOk result (items.new ≡ items.old ++ expand 0 first 0 (VirtualItem.CodeOf rd.now k)) }
 {
-    put_real(items, RealItem::Address(register_for(FIRST, rd), k))?;
+    put_real(items, RealItem::Address(register_for(FIRST_SPILL, rd), k))?;
     put_save(items, first, rd)
 }
 
@@ -176,11 +183,16 @@ fn put_branch(
 ) -> Result<(), OutOfMemory>
     ensures { OnOk result (items.new ≡ items.old ++ expand 0 first 0 (VirtualItem.Branch cond a.now b.now mark)) }
 {
-    put_fetch(items, first, FIRST, a)?;
-    put_fetch(items, first, SECOND, b)?;
+    put_fetch(items, first, FIRST_SPILL, a)?;
+    put_fetch(items, first, SECOND_SPILL, b)?;
     put_real(
         items,
-        RealItem::Branch(cond, register_for(FIRST, a), register_for(SECOND, b), mark),
+        RealItem::Branch(
+            cond,
+            register_for(FIRST_SPILL, a),
+            register_for(SECOND_SPILL, b),
+            mark,
+        ),
     )
 }
 
@@ -188,10 +200,10 @@ fn put_branch(
 fn put_call_at(items: &mut RealItems, first: u32, f: &VReg) -> Result<(), OutOfMemory>
     ensures { OnOk result (items.new ≡ items.old ++ expand 0 first 0 (VirtualItem.CallAt f.now 0)) }
 {
-    put_fetch(items, first, FIRST, f)?;
+    put_fetch(items, first, FIRST_SPILL, f)?;
     put(
         items,
-        Inst::Jalr(register(LINK), register_for(FIRST, f), small(0)),
+        Inst::Jalr(register(LINK), register_for(FIRST_SPILL, f), small(0)),
     )
 }
 
@@ -212,11 +224,11 @@ fn put_tail_call_at(
 ) -> Result<(), OutOfMemory>
     ensures { OnOk result (items.new ≡ items.old ++ expand 0 first count (VirtualItem.TailCallAt f.now 0)) }
 {
-    put_fetch(items, first, SECOND, f)?;
+    put_fetch(items, first, SECOND_SPILL, f)?;
     put_leave(items, count)?;
     put(
         items,
-        Inst::Jalr(register(ZERO), register_for(SECOND, f), small(0)),
+        Inst::Jalr(register(ZERO), register_for(SECOND_SPILL, f), small(0)),
     )
 }
 

@@ -15,7 +15,7 @@ use Rattle.rt_refs.specs.RefProcs.{ref_procs}
 use Rattle.lower.specs.declared.served.CastWay.{CastWay}
 use Rattle.lower.specs.declared.served.Served.{Served}
 use Rattle.lower.specs.Lowered.{low_proc, entry_proc, lowered}
-use Rattle.lower.specs.EnvironmentCalls.{region_out_call, stack_out_call}
+use Rattle.grift_base.specs.declared.environment.TheConstants.{REGION_OUT_CALL, STACK_OUT_CALL}
 use Rattle.lower.specs.Sets.{GiveUpNowhere, ServesAnywhere, with_casts, merged_procs}
 use Rattle.lower.proofs.closing.RoomCalls.{lowered_none}
 use Rattle.lower.proofs.closing.Sets.{programs_with_sets_are_closed}
@@ -55,10 +55,10 @@ module _ (numbers_from : ℕ → Served) (procs_from : ℕ → List Proc) (given
   pub program_gives_up_nowhere : ServesAnywhere (procs_from first) first (numbers_from first) → GiveUpNowhere whole
   program_gives_up_nowhere serves =
       let run_by = with_casts (numbers_from first) words ways in (
-        ap (any_calls region_out_call) comes_to
-            ∙ lowered_none region_out_call (inl refl) run_by flat entry told (procs_from first) serves.persist.0,
-        ap (any_calls stack_out_call) comes_to
-            ∙ lowered_none stack_out_call (inr refl) run_by flat entry told (procs_from first) serves.persist.1,
+        ap (any_calls REGION_OUT_CALL) comes_to
+            ∙ lowered_none REGION_OUT_CALL (inl refl) run_by flat entry told (procs_from first) serves.persist.0,
+        ap (any_calls STACK_OUT_CALL) comes_to
+            ∙ lowered_none STACK_OUT_CALL (inr refl) run_by flat entry told (procs_from first) serves.persist.1,
       )
 
 pub merged_list : (first : ℕ) (start more others whole : List LowProc) → procs_of start ≡ cast_procs first

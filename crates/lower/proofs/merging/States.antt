@@ -2,6 +2,7 @@
 use Rattle.std.proofs.Common.{◌≡◌, ◌⊎◌, inl, inr, ℕ, zero, suc, ◌+◌, ◌^◌, ◌<◌, ◌≤◌, Bool, true}
 use Rattle.std.proofs.Common.{false, List, [], ◌∷◌, length, Some, None, refl, sym, ap, ◌∙◌, subst, arith, slice_get}
 use Rattle.std.specs.Prelude.{if◌then◌else◌}
+use Rattle.grift_base.specs.declared.environment.TheConstants.{BLAME_CALL}
 use Rattle.grift_base.specs.declared.verdicts.Trap.{Trap}
 use Rattle.grift_base.specs.declared.verdicts.Verdict.TheVariants.{Trap as TrapVerdict}
 use Rattle.run_laws.specs.Runs.{Verdict as EndsWith}
@@ -37,7 +38,7 @@ use Rattle.low_ir.specs.Run.{code_step, goes_on}
 use Rattle.rt_cast.specs.Carried.{IsVery, BlamesAt}
 
 -- the environment call of a blame
-pub calls_blame : (x y labels : ℕ) (world : WorldState) → environment_call 3 x y labels world
+pub calls_blame : (x y labels : ℕ) (world : WorldState) → environment_call BLAME_CALL x y labels world
     ≡ record { effect = if Rattle.std.specs.Prelude.nat_lt x labels then Blamed x else Refused; world = world }
 unfolding environment_call
 calls_blame x y labels world = refl
@@ -110,7 +111,7 @@ module _ (setting : Setting) (l : Layout) (procs : List Proc) (casts : List Type
         let x = b.is in
         let y = b.other in
         let inside = lt_true label (length setting.labels) (in_front setting.labels [] label place found_it) in
-        let called : environment_call 3 label 0 (length setting.labels) t.world
+        let called : environment_call BLAME_CALL label 0 (length setting.labels) t.world
         ≡ record { effect = Blamed label; world = t.world } =
         calls_blame label 0 (length setting.labels) t.world
         ∙ ap (λ z. record { effect = if z then Blamed label else Refused; world = t.world }) inside in

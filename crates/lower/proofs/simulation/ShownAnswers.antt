@@ -5,6 +5,7 @@ use Rattle.std.proofs.Common.{[]}
 use Rattle.std.proofs.Common.{◌∷◌, length, Option, Some, None, refl, sym, ap, ◌∙◌, subst, arith, pos}
 use Rattle.std.specs.Prelude.{if◌then◌else◌, ◌&&◌, not}
 use Rattle.std.specs.Int.{w64, cast_signed}
+use Rattle.grift_base.specs.declared.environment.TheConstants.{END_CALL}
 use Rattle.grift_base.specs.Types.{TypeRow, IntRow, BoolRow, UnitRow, DynRow, FunRow, TupleRow, RefRow, VectRow, is_dyn}
 use Rattle.grift_base.specs.Types.{equal_heads, head_of, row_at, TypeHead, IntHead, BoolHead, UnitHead, DynHead}
 use Rattle.grift_base.specs.World.{WorldState}
@@ -77,7 +78,7 @@ show_price procs (RefRow content) = omega arith
 show_price procs (VectRow content) = omega arith
 
 calls_ending : (kind x labels : ℕ) (world : WorldState)
-    → environment_call 0 kind x labels world ≡ record { effect = ends_call kind x; world = world }
+    → environment_call END_CALL kind x labels world ≡ record { effect = ends_call kind x; world = world }
 unfolding environment_call
 calls_ending kind x labels world = refl
 
@@ -110,7 +111,7 @@ module _ (program : Program) (typed : TypesStand program.l) (places : List ℕ) 
   ends_so kind source x a words rests e is =
       let t = at world h [] 3 rests words (ends kind source) in
       let last = at world h [] 3 rests words (ReturnCode (Number 0)) in
-      let called : environment_call 0 (kind % 2 ^ 64) x (length program.setting.labels) world
+      let called : environment_call END_CALL (kind % 2 ^ 64) x (length program.setting.labels) world
       ≡ record { effect = Answers a; world = world } =
       calls_ending (kind % 2 ^ 64) x (length program.setting.labels) world
       ∙ ap (λ effect. record { effect = effect; world = world }) is in

@@ -5,6 +5,8 @@ use Rattle.std.specs.Prelude.{◌+ℤ◌, ◌-ℤ◌, int_lt, not, if◌then◌e
 use Rattle.std.specs.Int.{w64, cast_unsigned, cast_signed, int_wrap}
 use Rattle.std.specs.Fmt.{signed_decimal}
 use Rattle.std.specs.Ordering.{int_eq}
+use Rattle.grift_base.specs.declared.environment.TheConstants.{PRINT_INT_CALL, PRINT_BYTE_CALL}
+use Rattle.grift_base.specs.declared.environment.TheConstants.{READ_INT_CALL, TRAP_CALL}
 use Rattle.grift_base.specs.World.{WorldState, printing}
 use Rattle.grift_base.specs.Reading.{next_number, past_white, past_run, after_reading}
 use Rattle.grift_base.specs.EnvironmentCall.{Called, environment_call, reads}
@@ -70,24 +72,24 @@ split_first (Some y) (Some ys) w ws e =
     tail_same : (x y : ℕ) (xs ys : List ℕ) → (x ∷ xs) ≡ (y ∷ ys) → xs ≡ ys
     tail_same x y xs ys e = cc
 
-prints : (x y labels : ℕ) (world : WorldState) → environment_call 1 x y labels world
+prints : (x y labels : ℕ) (world : WorldState) → environment_call PRINT_INT_CALL x y labels world
     ≡ record { effect = GoesOn x y; world = printing (signed_decimal (cast_signed w64 x)) world }
 unfolding environment_call
 prints x y labels world = refl
 
-prints_line : (labels : ℕ) (world : WorldState) → environment_call 2 10 0 labels world
+prints_line : (labels : ℕ) (world : WorldState) → environment_call PRINT_BYTE_CALL 10 0 labels world
     ≡ record { effect = GoesOn 10 0; world = printing (codes "\n") world }
 unfolding environment_call
 prints_line labels world = refl
 
 -- the call that reads, told what stands next in the input
 reads_next : (labels : ℕ) (world : WorldState) (o : Option ℤ) → next_number world ≡ o
-    → environment_call 7 0 0 labels world ≡ record { effect = reads o; world = after_reading o world }
+    → environment_call READ_INT_CALL 0 0 labels world ≡ record { effect = reads o; world = after_reading o world }
 unfolding environment_call
 reads_next labels world o e =
     let called : Option ℤ → Called = λ x. record { effect = reads x; world = after_reading x world } in ap called e
 
-traps_input : (labels : ℕ) (world : WorldState) → environment_call 4 4 0 labels world
+traps_input : (labels : ℕ) (world : WorldState) → environment_call TRAP_CALL 4 0 labels world
     ≡ record { effect = Trapped Input; world = world }
 unfolding environment_call
 traps_input labels world = refl
