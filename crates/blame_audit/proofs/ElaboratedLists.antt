@@ -5,7 +5,7 @@ use Rattle.grift_base.specs.Tables.{HasNoRepeats}
 use Rattle.grift_base.specs.Types.{TypeRows}
 use Rattle.type_graph.specs.Trees.{AreFinite}
 use Rattle.core_calc.specs.Views.{term_of}
-use Rattle.surface_syntax.specs.Trees.{Expr}
+use Rattle.surface_trees.specs.Trees.{Expr}
 use Rattle.cast_insert.specs.declared.insertion.Elab.{Elab}
 use Rattle.cast_insert.specs.Elaboration.{elaborate_program}
 use Rattle.cast_insert.specs.Listed.{IsListed}

@@ -6,7 +6,7 @@ use Rattle.grift_base.specs.declared.places.Pos.{Pos}
 use Rattle.grift_base.specs.declared.verdicts.Verdict.TheVariants.{Blame}
 use Rattle.core_calc.specs.Calculus.{Blamed, Program, calc}
 use Rattle.core_calc.specs.Views.{term_of}
-use Rattle.surface_syntax.specs.Trees.{Expr}
+use Rattle.surface_trees.specs.Trees.{Expr}
 use Rattle.cast_insert.specs.declared.insertion.Elab.{Elab}
 use Rattle.cast_insert.specs.Elaboration.{elaborate_program}
 use Rattle.cast_insert.specs.Outcomes.{Elaborates, outcome_of}

@@ -8,9 +8,9 @@ use Rattle.grift_base.specs.declared.refusals.RefusalKind.TheVariants.{NotConsis
 use Rattle.grift_base.specs.declared.refusals.RefusalKind.TheVariants.{NotVector, TypeTooLarge}
 use Rattle.grift_base.specs.Types.{IntRow, BoolRow, UnitRow, DynRow, TupleRow, RefRow, VectRow}
 use Rattle.core_calc.specs.Terms.{IntLit, BoolLit, UnitLit, Cast, Proj, ProjDyn, Tuple, Prim, terms_from}
-use Rattle.surface_syntax.specs.declared.names.Ident.TheVariants.{Source}
-use Rattle.surface_syntax.specs.Trees.{ExprAt, UnitNode, LetNode, AscribeNode, TupleNode, ProjNode, PrimNode, NoLets}
-use Rattle.surface_syntax.specs.Trees.{LetThen}
+use Rattle.surface_trees.specs.declared.names.Ident.TheVariants.{Source}
+use Rattle.surface_trees.specs.Trees.{ExprAt, UnitNode, LetNode, AscribeNode, TupleNode, ProjNode, PrimNode, NoLets}
+use Rattle.surface_trees.specs.Trees.{LetThen}
 use Rattle.cast_insert.specs.Making.{then_make, Makes, CastFrom, PartOf}
 use Rattle.cast_insert.specs.Elaboration.{elaborate_program}
 use Rattle.cast_insert.specs.Outcomes.{IsRefused}

@@ -4,10 +4,10 @@ use Rattle.grift_base.specs.declared.places.Pos.{Pos}
 use Rattle.core_calc.specs.Typing.{Context, ProgramTermHasType, binders}
 use Rattle.core_calc.specs.Terms.{Term}
 use Rattle.cast_insert.proofs.Tables.{IsFormedTable, type_table}
-use Rattle.surface_syntax.specs.Trees.{Expr, ExprNode, LambdaExpr, Exprs, LetBindings, LetrecMembers, ExprAt, IntNode}
-use Rattle.surface_syntax.specs.Trees.{BoolNode, UnitNode, NameNode, LambdaNode, CallNode, LetNode, LetrecNode, IfNode}
-use Rattle.surface_syntax.specs.Trees.{BeginNode, AscribeNode, TupleNode, ProjNode, PrimNode, LambdaAt, NoExprs}
-use Rattle.surface_syntax.specs.Trees.{ExprThen, NoLets, LetThen, NoLetrecs, LetrecThen}
+use Rattle.surface_trees.specs.Trees.{Expr, ExprNode, LambdaExpr, Exprs, LetBindings, LetrecMembers, ExprAt, IntNode}
+use Rattle.surface_trees.specs.Trees.{BoolNode, UnitNode, NameNode, LambdaNode, CallNode, LetNode, LetrecNode, IfNode}
+use Rattle.surface_trees.specs.Trees.{BeginNode, AscribeNode, TupleNode, ProjNode, PrimNode, LambdaAt, NoExprs}
+use Rattle.surface_trees.specs.Trees.{ExprThen, NoLets, LetThen, NoLetrecs, LetrecThen}
 use Rattle.cast_insert.specs.Sources.{how_many}
 use Rattle.cast_insert.specs.Making.{Work, Made, Makes, Typed}
 use Rattle.cast_insert.specs.Environments.{Environment, Head}

@@ -10,9 +10,9 @@ use Rattle.core_calc.specs.Substitution.{entry_of, bind}
 use Rattle.core_calc.specs.Typing.{Context}
 use Rattle.cast_insert.proofs.Tables.{IsFormedTable, AreRows}
 use Rattle.type_graph.proofs.Public.{none_is_not_some, same_some, same_rows, later_within}
-use Rattle.surface_syntax.specs.declared.names.Ident.{Ident}
+use Rattle.surface_trees.specs.declared.names.Ident.{Ident}
 use Rattle.cast_insert.specs.Sources.{equal_idents}
-use Rattle.surface_syntax.specs.Trees.{Param, TypeExpr}
+use Rattle.surface_trees.specs.Trees.{Param, TypeExpr}
 use Rattle.type_graph.specs.Forming.{intern}
 use Rattle.cast_insert.specs.Making.{Work, form}
 use Rattle.cast_insert.specs.Environments.{Meaning, Environment, meaning_of, variables, types_of, type_or_dyn}

@@ -6,10 +6,10 @@ use Rattle.grift_base.specs.declared.refusals.RefusalKind.TheVariants.{Unbound, 
 use Rattle.grift_base.specs.Types.{IntRow, BoolRow, UnitRow, DynRow, FunRow, TupleRow, RefRow}
 use Rattle.core_calc.specs.Terms.{IntLit, BoolLit, UnitLit, Var, Lambda, Group, Let, Call, If, Seq, Cast, Tuple, Prim}
 use Rattle.core_calc.specs.Terms.{NoMembers, MemberThen, NoBindings, BindingThen, terms_from}
-use Rattle.surface_syntax.specs.declared.names.Ident.TheVariants.{Source}
-use Rattle.surface_syntax.specs.Trees.{TypeAt, RefType, ExprAt, UnitNode, LambdaNode, CallNode, LetNode, LetrecNode}
-use Rattle.surface_syntax.specs.Trees.{IfNode, BeginNode, AscribeNode, TupleNode, PrimNode, LambdaAt, NoLets, LetThen}
-use Rattle.surface_syntax.specs.Trees.{NoLetrecs, LetrecThen}
+use Rattle.surface_trees.specs.declared.names.Ident.TheVariants.{Source}
+use Rattle.surface_trees.specs.Trees.{TypeAt, RefType, ExprAt, UnitNode, LambdaNode, CallNode, LetNode, LetrecNode}
+use Rattle.surface_trees.specs.Trees.{IfNode, BeginNode, AscribeNode, TupleNode, PrimNode, LambdaAt, NoLets, LetThen}
+use Rattle.surface_trees.specs.Trees.{NoLetrecs, LetrecThen}
 use Rattle.cast_insert.specs.Making.{then_make, Makes, Refuses, CastFrom}
 use Rattle.cast_insert.specs.Elaboration.{elaborate_program}
 use Rattle.cast_insert.specs.Outcomes.{IsRefused}

@@ -8,8 +8,8 @@ use Rattle.std.proofs.lemmas.List.Elements.{All-nil, All-cons, All-append, All-h
 use Rattle.std.proofs.lemmas.Option.{slice_get_within}
 use Rattle.grift_base.specs.Types.{TypeRow, TypeRows, FunRow, TupleRow, RefRow, VectRow, row_at, parts_of, is_dyn}
 use Rattle.grift_base.specs.Types.{same_head}
-use Rattle.surface_syntax.specs.Trees.{TypeExpr, TypeNode, TypeExprs, TypeAt, BaseType, FunType, TupleType, RefType}
-use Rattle.surface_syntax.specs.Trees.{VectType, NoTypes, TypeThen}
+use Rattle.surface_trees.specs.Trees.{TypeExpr, TypeNode, TypeExprs, TypeAt, BaseType, FunType, TupleType, RefType}
+use Rattle.surface_trees.specs.Trees.{VectType, NoTypes, TypeThen}
 use Rattle.type_graph.specs.Forming.{Forming, ◌>>=◌, formed, intern}
 use Rattle.type_graph.specs.Trees.{related}
 use Rattle.type_graph.specs.TypeTables.{HasMoreRows}

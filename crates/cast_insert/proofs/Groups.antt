@@ -7,9 +7,9 @@ use Rattle.core_calc.specs.Terms.{Members, Seq, NoMembers, MemberThen, member_na
 use Rattle.core_calc.specs.Typing.{Context, IsWritten, HasType, MembersHaveTypes, IsFunction, member_types, binders}
 use Rattle.core_calc.specs.Typing.{all_binders, member_binders, AreWrittenMembers}
 use Rattle.cast_insert.proofs.Tables.{IsFormedTable, more_parts}
-use Rattle.surface_syntax.specs.declared.names.Ident.{Ident}
-use Rattle.surface_syntax.specs.Trees.{TypeExpr, Param, LambdaExpr, Exprs, LetrecMembers, LetrecNode, LambdaAt}
-use Rattle.surface_syntax.specs.Trees.{NoLetrecs, LetrecThen}
+use Rattle.surface_trees.specs.declared.names.Ident.{Ident}
+use Rattle.surface_trees.specs.Trees.{TypeExpr, Param, LambdaExpr, Exprs, LetrecMembers, LetrecNode, LambdaAt}
+use Rattle.surface_trees.specs.Trees.{NoLetrecs, LetrecThen}
 use Rattle.cast_insert.specs.Sources.{last_place}
 use Rattle.cast_insert.specs.Making.{Work, Making}
 use Rattle.cast_insert.specs.Environments.{Environment, with_names, variables, types_of, Head, head_of, heads_of}

@@ -12,11 +12,11 @@ use Rattle.core_calc.specs.Terms.{Terms, Members, IntLit, BoolLit, UnitLit, Var,
 use Rattle.core_calc.specs.Terms.{Call, If, Seq, Cast, Proj, ProjDyn, Tuple, Prim, NoTerms, TermThen, NoMembers}
 use Rattle.core_calc.specs.Terms.{MemberThen, NoBindings, BindingThen}
 use Rattle.core_calc.proofs.Public.{get_kept, get_last}
-use Rattle.surface_syntax.specs.declared.names.Ident.{Ident}
-use Rattle.surface_syntax.specs.Trees.{TypeExpr, Param, Expr, ExprAt, ExprNode, IntNode, BoolNode, UnitNode, NameNode}
-use Rattle.surface_syntax.specs.Trees.{LambdaNode, CallNode, LetNode, LetrecNode, IfNode, BeginNode, AscribeNode}
-use Rattle.surface_syntax.specs.Trees.{TupleNode, ProjNode, PrimNode, LambdaExpr, LambdaAt, Exprs, NoExprs, ExprThen}
-use Rattle.surface_syntax.specs.Trees.{LetBindings, NoLets, LetThen, LetrecMembers, NoLetrecs, LetrecThen}
+use Rattle.surface_trees.specs.declared.names.Ident.{Ident}
+use Rattle.surface_trees.specs.Trees.{TypeExpr, Param, Expr, ExprAt, ExprNode, IntNode, BoolNode, UnitNode, NameNode}
+use Rattle.surface_trees.specs.Trees.{LambdaNode, CallNode, LetNode, LetrecNode, IfNode, BeginNode, AscribeNode}
+use Rattle.surface_trees.specs.Trees.{TupleNode, ProjNode, PrimNode, LambdaExpr, LambdaAt, Exprs, NoExprs, ExprThen}
+use Rattle.surface_trees.specs.Trees.{LetBindings, NoLets, LetThen, LetrecMembers, NoLetrecs, LetrecThen}
 use Rattle.cast_insert.specs.Sources.{place_of, last_place, how_many, place_of_type}
 use Rattle.cast_insert.specs.WrittenTypes.{form_type}
 use Rattle.consistency.specs.Blending.{blend}

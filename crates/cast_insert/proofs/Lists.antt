@@ -6,7 +6,7 @@ use Rattle.grift_base.specs.Types.{TypeRows}
 use Rattle.core_calc.specs.Terms.{Term, Terms, Prim, NoTerms, TermThen}
 use Rattle.core_calc.specs.Typing.{Context, HasType, LastHasType, binders, all_binders}
 use Rattle.cast_insert.proofs.Tables.{IsFormedTable, AreRows, more_parts}
-use Rattle.surface_syntax.specs.Trees.{Expr, Exprs, BeginNode, PrimNode, NoExprs, ExprThen}
+use Rattle.surface_trees.specs.Trees.{Expr, Exprs, BeginNode, PrimNode, NoExprs, ExprThen}
 use Rattle.cast_insert.specs.Sources.{place_of, how_many}
 use Rattle.cast_insert.specs.Making.{Work, Making, Typed}
 use Rattle.cast_insert.specs.Environments.{Environment}

@@ -4,14 +4,14 @@ use Rattle.std.proofs.Common.{append_assoc, append-nil, Option}
 use Rattle.std.proofs.lemmas.List.{map-append}
 use Rattle.grift_base.specs.declared.places.Pos.{Pos}
 use Rattle.grift_base.specs.declared.refusals.RefusalKind.{RefusalKind}
-use Rattle.surface_syntax.specs.declared.names.Ident.{Ident}
+use Rattle.surface_trees.specs.declared.names.Ident.{Ident}
 use Rattle.std.proofs.Common.{ℕ}
 use Rattle.grift_base.specs.Types.{UnitRow, BoolRow}
 use Rattle.type_graph.specs.Forming.{intern}
 use Rattle.core_calc.specs.Terms.{Term, NoTerms, TermThen, NoBindings, BindingThen, Binding, Members, Member}
 use Rattle.core_calc.specs.Terms.{NoMembers, MemberThen}
-use Rattle.surface_syntax.specs.Trees.{TypeExpr, LambdaExpr, LetrecMembers, NoLetrecs, LetrecThen, Expr, Exprs}
-use Rattle.surface_syntax.specs.Trees.{NoExprs, ExprThen, LetBindings, NoLets, LetThen, IfNode}
+use Rattle.surface_trees.specs.Trees.{TypeExpr, LambdaExpr, LetrecMembers, NoLetrecs, LetrecThen, Expr, Exprs}
+use Rattle.surface_trees.specs.Trees.{NoExprs, ExprThen, LetBindings, NoLets, LetThen, IfNode}
 use Rattle.std.specs.Prelude.{Result, Err}
 use Rattle.grift_base.specs.declared.refusals.FrontFault.{FrontFault}
 use Rattle.grift_base.specs.declared.refusals.FrontFault.TheVariants.{Refused, OutOfMemory}

@@ -8,9 +8,9 @@ use Rattle.grift_base.specs.Types.{TypeRow, IntRow, BoolRow, UnitRow, TupleRow, 
 use Rattle.core_calc.specs.Terms.{Term, IntLit, BoolLit, UnitLit, If, Prim}
 use Rattle.core_calc.specs.Typing.{Context, IsWritten, HasType, binders, all_binders}
 use Rattle.cast_insert.proofs.Tables.{IsFormedTable, AreRows}
-use Rattle.surface_syntax.specs.declared.names.Ident.{Ident}
-use Rattle.surface_syntax.specs.Trees.{TypeExpr, Expr, Exprs, IntNode, BoolNode, UnitNode, NameNode, CallNode, IfNode}
-use Rattle.surface_syntax.specs.Trees.{AscribeNode, TupleNode, ProjNode}
+use Rattle.surface_trees.specs.declared.names.Ident.{Ident}
+use Rattle.surface_trees.specs.Trees.{TypeExpr, Expr, Exprs, IntNode, BoolNode, UnitNode, NameNode, CallNode, IfNode}
+use Rattle.surface_trees.specs.Trees.{AscribeNode, TupleNode, ProjNode}
 use Rattle.cast_insert.specs.Sources.{place_of, how_many}
 use Rattle.type_graph.specs.Forming.{intern}
 use Rattle.consistency.specs.Blending.{blend}

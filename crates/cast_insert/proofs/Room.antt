@@ -11,7 +11,7 @@ use Rattle.type_graph.specs.Trees.{row_parts, height, height_to, above_all, size
 use Rattle.type_graph.specs.TypeTables.{IsOrderedTable, HasMoreRows, MayBePart, FitsTable, HasWidth}
 use Rattle.type_graph.proofs.Public.{later_within, height_by_parts, height_grown, intern_adds}
 use Rattle.type_graph.proofs.Public.{row_at-intern, parts_within}
-use Rattle.surface_syntax.specs.Trees.{Expr, Exprs, NoExprs, ExprThen}
+use Rattle.surface_trees.specs.Trees.{Expr, Exprs, NoExprs, ExprThen}
 use Rattle.cast_insert.specs.Programs.{IsSource, IsSourceBody}
 use Rattle.cast_insert.specs.Room.{Grows, AreParts, MayPart, IsWithin, AreWithin, StandsOn}
 

@@ -5,8 +5,8 @@ use Rattle.grift_base.specs.Types.{FunRow, row_at}
 use Rattle.core_calc.specs.Typing.{Context, BindingsHaveTypes, binders, all_binders, binding_binders}
 use Rattle.core_calc.specs.Typing.{AreWrittenBindings}
 use Rattle.cast_insert.proofs.Tables.{IsFormedTable, AreRows, more_parts}
-use Rattle.surface_syntax.specs.declared.names.Ident.{Ident}
-use Rattle.surface_syntax.specs.Trees.{TypeExpr, Param, Expr, Exprs, LetBindings, LetNode, LambdaAt, NoLets, LetThen}
+use Rattle.surface_trees.specs.declared.names.Ident.{Ident}
+use Rattle.surface_trees.specs.Trees.{TypeExpr, Param, Expr, Exprs, LetBindings, LetNode, LambdaAt, NoLets, LetThen}
 use Rattle.cast_insert.specs.Sources.{place_of, last_place}
 use Rattle.cast_insert.specs.Making.{Work, Making, fresh}
 use Rattle.cast_insert.specs.Environments.{Environment, with_names, variables, types_of}

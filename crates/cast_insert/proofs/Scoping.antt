@@ -15,9 +15,9 @@ use Rattle.std.specs.Prelude.{take, ◌+◌}
 use Rattle.cast_insert.specs.declared.names.Named.{Named}
 use Rattle.type_graph.specs.Forming.{equal_numbers}
 use Rattle.type_graph.proofs.Public.{none_is_not_some, same_some, get_kept}
-use Rattle.surface_syntax.specs.declared.names.Ident.{Ident}
-use Rattle.surface_syntax.specs.declared.names.Ident.TheVariants.{Source, Fresh}
-use Rattle.surface_syntax.specs.contracts.names.IdentPartialEq.TheImpl.{ghosts}
+use Rattle.surface_trees.specs.declared.names.Ident.{Ident}
+use Rattle.surface_trees.specs.declared.names.Ident.TheVariants.{Source, Fresh}
+use Rattle.surface_trees.specs.contracts.names.IdentPartialEq.TheImpl.{ghosts}
 use Rattle.cast_insert.specs.declared.names.Entry.{Entry}
 use Rattle.cast_insert.specs.Sources.{equal_idents}
 use Rattle.cast_insert.specs.Environments.{Meaning, Environment, meaning_of, with_names, variables}

@@ -3,10 +3,10 @@ use Rattle.std.proofs.Common.{ℕ, pos, Bool, List, [], ◌∷◌, Option}
 use Rattle.grift_base.specs.declared.places.Pos.{Pos}
 use Rattle.grift_base.specs.Types.{TypeRow}
 use Rattle.core_calc.specs.Terms.{Term}
-use Rattle.surface_syntax.specs.declared.names.Ident.TheVariants.{Source}
-use Rattle.surface_syntax.specs.Trees.{TypeExpr, TypeExprs, TypeAt, BaseType, FunType, TupleType, NoTypes, TypeThen}
-use Rattle.surface_syntax.specs.Trees.{Param}
-use Rattle.surface_syntax.specs.Trees.{Expr, Exprs, ExprAt, IntNode, BoolNode, NameNode, NoExprs, ExprThen}
+use Rattle.surface_trees.specs.declared.names.Ident.TheVariants.{Source}
+use Rattle.surface_trees.specs.Trees.{TypeExpr, TypeExprs, TypeAt, BaseType, FunType, TupleType, NoTypes, TypeThen}
+use Rattle.surface_trees.specs.Trees.{Param}
+use Rattle.surface_trees.specs.Trees.{Expr, Exprs, ExprAt, IntNode, BoolNode, NameNode, NoExprs, ExprThen}
 use Rattle.cast_insert.specs.Making.{Typed}
 use Rattle.cast_insert.specs.Elaboration.{elaborate_program}
 use Rattle.cast_insert.specs.Outcomes.{Outcome, outcome_of}

@@ -14,7 +14,7 @@ use Rattle.std.proofs.lemmas.Option.{slice_get_within, slice_get-get_or, get_or_
 use Rattle.type_graph.specs.Rows.{places_of}
 use Rattle.type_graph.specs.Forming.{place_where, at_place_or_last}
 use Rattle.type_graph.proofs.Public.{place_found, place_missing, get_before_or_last}
-use Rattle.surface_syntax.specs.Trees.{TypeExpr, TypeExprs, TypeThen}
+use Rattle.surface_trees.specs.Trees.{TypeExpr, TypeExprs, TypeThen}
 use Rattle.cast_insert.specs.WrittenTypes.{form_type, form_types}
 use Rattle.cast_insert.specs.Making.{Work, Makes, Refuses, Making, then_make, equal_places, label_at, test}
 

@@ -11,7 +11,7 @@ use Rattle.grift_base.specs.Types.{TypeRow, TypeRows, row_at, parts_of}
 use Rattle.core_calc.specs.Terms.{Term, Terms}
 use Rattle.core_calc.specs.Typing.{Context, HasType, HaveTypes, IsWritten, AreWritten, binders, all_binders}
 use Rattle.cast_insert.proofs.Tables.{IsFormedTable, AreRows, more_parts, intern_keeps}
-use Rattle.surface_syntax.specs.Trees.{TypeExpr}
+use Rattle.surface_trees.specs.Trees.{TypeExpr}
 use Rattle.type_graph.specs.Forming.{Forming, intern, place_where, at_place_or_last}
 use Rattle.cast_insert.specs.WrittenTypes.{form_type}
 use Rattle.cast_insert.specs.Making.{Work, Made, Makes, Refuses, Making, then_make, form, label_at, list_entry}

@@ -7,7 +7,7 @@ use Rattle.type_graph.specs.Forming.{intern}
 use Rattle.core_calc.specs.Terms.{Members, Bindings, MemberThen, BindingThen, Lambda, Prim}
 use Rattle.core_calc.specs.Terms.{Member, Binding}
 use Rattle.core_calc.specs.Views.{term_of, terms_of, bindings_of, names_of}
-use Rattle.surface_syntax.specs.Trees.{Exprs}
+use Rattle.surface_trees.specs.Trees.{Exprs}
 use Rattle.cast_insert.specs.declared.elaboration.Sequence.{Sequence as RustSequence}
 use Rattle.cast_insert.specs.declared.elaboration.Bound.{Bound as RustBound}
 use Rattle.cast_insert.specs.declared.elaboration.Gathered.{Gathered}

@@ -1,7 +1,7 @@
 -- What is claimed of the elaboration.
 use Rattle.std.specs.Prelude.{◌≡◌, ℕ, ◌<◌, length, Option, Some, None, slice_get}
 use Rattle.core_calc.specs.Typing.{ProgramTermHasType}
-use Rattle.surface_syntax.specs.Trees.{Expr}
+use Rattle.surface_trees.specs.Trees.{Expr}
 use Rattle.cast_insert.specs.Making.{Entry, CastFrom, PartOf, Work, Makes, Typed}
 use Rattle.cast_insert.specs.Elaboration.{elaborate_program}
 use Rattle.cast_insert.specs.Programs.{IsSource}

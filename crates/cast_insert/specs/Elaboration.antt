@@ -6,10 +6,10 @@ use Rattle.grift_base.specs.declared.places.Pos.{Pos}
 use Rattle.type_graph.specs.Forming.{intern}
 use Rattle.core_calc.specs.Terms.{Term, Terms, Members, Bindings, IntLit, BoolLit, UnitLit, Lambda, Group, Let, If, Seq}
 use Rattle.core_calc.specs.Terms.{Tuple, Prim, NoTerms, TermThen, NoMembers, MemberThen, NoBindings, BindingThen}
-use Rattle.surface_syntax.specs.Trees.{Expr, ExprNode, LambdaExpr, Exprs, LetBindings, LetrecMembers, ExprAt, IntNode}
-use Rattle.surface_syntax.specs.Trees.{BoolNode, UnitNode, NameNode, LambdaNode, CallNode, LetNode, LetrecNode, IfNode}
-use Rattle.surface_syntax.specs.Trees.{BeginNode, AscribeNode, TupleNode, ProjNode, PrimNode, LambdaAt, NoExprs}
-use Rattle.surface_syntax.specs.Trees.{ExprThen, NoLets, LetThen, LetrecThen}
+use Rattle.surface_trees.specs.Trees.{Expr, ExprNode, LambdaExpr, Exprs, LetBindings, LetrecMembers, ExprAt, IntNode}
+use Rattle.surface_trees.specs.Trees.{BoolNode, UnitNode, NameNode, LambdaNode, CallNode, LetNode, LetrecNode, IfNode}
+use Rattle.surface_trees.specs.Trees.{BeginNode, AscribeNode, TupleNode, ProjNode, PrimNode, LambdaAt, NoExprs}
+use Rattle.surface_trees.specs.Trees.{ExprThen, NoLets, LetThen, LetrecThen}
 use Rattle.cast_insert.specs.Sources.{place_of, last_place, how_many}
 use Rattle.cast_insert.specs.Making.{Work, Made, Making, ◌>>=◌, ◌>>◌, give, form, row_of, fresh, not_too_large}
 use Rattle.cast_insert.specs.Making.{blend_at, Typed, typed, cast_to, cast_if, cast_to_row, written, written_if}

@@ -5,8 +5,8 @@ use Rattle.grift_base.specs.declared.places.Pos.{Pos}
 use Rattle.grift_base.specs.declared.refusals.RefusalKind.TheVariants.{Unbound}
 use Rattle.type_graph.specs.Forming.{intern}
 use Rattle.core_calc.specs.Terms.{Var}
-use Rattle.surface_syntax.specs.declared.names.Ident.{Ident}
-use Rattle.surface_syntax.specs.Trees.{TypeExpr, Param, LambdaExpr, LambdaAt, LetrecMembers, NoLetrecs, LetrecThen}
+use Rattle.surface_trees.specs.declared.names.Ident.{Ident}
+use Rattle.surface_trees.specs.Trees.{TypeExpr, Param, LambdaExpr, LambdaAt, LetrecMembers, NoLetrecs, LetrecThen}
 use Rattle.cast_insert.specs.Sources.{equal_idents}
 use Rattle.cast_insert.specs.Making.{Making, ◌>>=◌, ◌>>◌, give, refuse, form, fresh, not_too_large, are_consistent}
 use Rattle.cast_insert.specs.Making.{Typed, typed, cast_at, written, written_if}

@@ -3,10 +3,10 @@ use Rattle.std.specs.Prelude.{ℕ, List, map, Option}
 use Rattle.grift_base.specs.declared.places.Pos.{Pos}
 use Rattle.grift_base.specs.Types.{FunRow}
 use Rattle.type_graph.specs.Forming.{intern}
-use Rattle.surface_syntax.specs.declared.names.Ident.{Ident}
-use Rattle.surface_syntax.specs.declared.exprs.Member.{Member, out-Member}
-use Rattle.surface_syntax.specs.Trees.{TypeExpr, LambdaExpr}
-use Rattle.surface_syntax.specs.Views.{lambda_of, written_of}
+use Rattle.surface_trees.specs.declared.names.Ident.{Ident}
+use Rattle.surface_trees.specs.declared.exprs.Member.{Member, out-Member}
+use Rattle.surface_trees.specs.Trees.{TypeExpr, LambdaExpr}
+use Rattle.surface_trees.specs.Views.{lambda_of, written_of}
 use Rattle.type_graph.specs.Rows.{places_of}
 use Rattle.cast_insert.specs.declared.heads.Head.{Head as RustHead}
 use Rattle.cast_insert.specs.Making.{Making, ◌>>=◌, ◌>>◌, give, form, fresh, not_too_large}

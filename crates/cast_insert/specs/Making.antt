@@ -10,7 +10,7 @@ use Rattle.type_graph.specs.Trees.{size}
 use Rattle.consistency.specs.Consistency.{consistent}
 use Rattle.consistency.specs.Blending.{blend}
 use Rattle.core_calc.specs.Terms.{Term, Cast}
-use Rattle.surface_syntax.specs.Trees.{TypeExpr}
+use Rattle.surface_trees.specs.Trees.{TypeExpr}
 use Rattle.cast_insert.specs.Sources.{place_of_type}
 use Rattle.cast_insert.specs.WrittenTypes.{form_type}
 

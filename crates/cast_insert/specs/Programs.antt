@@ -4,12 +4,12 @@ use Rattle.std.specs.Int.{w64}
 use Rattle.std.specs.Int.RustNames.{FitsSigned}
 use Rattle.grift_base.specs.Types.{parts_of}
 use Rattle.type_graph.specs.TypeTables.{HasWidth}
-use Rattle.surface_syntax.specs.Trees.{TypeExpr, TypeNode, TypeExprs, TypeAt, BaseType, FunType, TupleType, RefType}
-use Rattle.surface_syntax.specs.Trees.{VectType, NoTypes, TypeThen}
-use Rattle.surface_syntax.specs.Trees.{Param, Expr, ExprNode, LambdaExpr, Exprs, LetBindings, LetrecMembers, ExprAt}
-use Rattle.surface_syntax.specs.Trees.{IntNode, BoolNode, UnitNode, NameNode, LambdaNode, CallNode, LetNode, LetrecNode}
-use Rattle.surface_syntax.specs.Trees.{IfNode, BeginNode, AscribeNode, TupleNode, ProjNode, PrimNode, LambdaAt, NoExprs}
-use Rattle.surface_syntax.specs.Trees.{ExprThen, NoLets, LetThen, NoLetrecs, LetrecThen}
+use Rattle.surface_trees.specs.Trees.{TypeExpr, TypeNode, TypeExprs, TypeAt, BaseType, FunType, TupleType, RefType}
+use Rattle.surface_trees.specs.Trees.{VectType, NoTypes, TypeThen}
+use Rattle.surface_trees.specs.Trees.{Param, Expr, ExprNode, LambdaExpr, Exprs, LetBindings, LetrecMembers, ExprAt}
+use Rattle.surface_trees.specs.Trees.{IntNode, BoolNode, UnitNode, NameNode, LambdaNode, CallNode, LetNode, LetrecNode}
+use Rattle.surface_trees.specs.Trees.{IfNode, BeginNode, AscribeNode, TupleNode, ProjNode, PrimNode, LambdaAt, NoExprs}
+use Rattle.surface_trees.specs.Trees.{ExprThen, NoLets, LetThen, NoLetrecs, LetrecThen}
 use Rattle.cast_insert.specs.Sources.{how_many}
 use Rattle.cast_insert.specs.Operators.{operands_of}
 

@@ -3,8 +3,8 @@ use Rattle.std.specs.Prelude.{◌≡◌, ◌≤◌, ℕ, cond, List, [], ◌∷�
 use Rattle.std.specs.declared.hash.FoldHasher.{FoldHasher}
 use Rattle.std.specs.declared.hash.BuildHasherDefault.{BuildHasherDefault}
 use Rattle.std.specs.HashMap.{HashMap, get}
-use Rattle.surface_syntax.specs.declared.names.Ident.{Ident}
-use Rattle.surface_syntax.specs.contracts.names.IdentPartialEq.TheImpl.{ghosts}
+use Rattle.surface_trees.specs.declared.names.Ident.{Ident}
+use Rattle.surface_trees.specs.contracts.names.IdentPartialEq.TheImpl.{ghosts}
 use Rattle.cast_insert.specs.declared.names.Entry.{Entry}
 use Rattle.cast_insert.specs.declared.names.Named.{Named}
 use Rattle.cast_insert.specs.Sources.{equal_idents}

@@ -2,9 +2,9 @@
 use Rattle.std.specs.Prelude.{ℕ, suc, Bool, false, nat_eq}
 use Rattle.grift_base.specs.declared.places.Pos.{Pos}
 use Rattle.type_graph.specs.Forming.{equal_numbers}
-use Rattle.surface_syntax.specs.declared.names.Ident.{Ident}
-use Rattle.surface_syntax.specs.declared.names.Ident.TheVariants.{Source, Fresh}
-use Rattle.surface_syntax.specs.Trees.{TypeExpr, TypeAt, Expr, ExprAt, Exprs, NoExprs, ExprThen}
+use Rattle.surface_trees.specs.declared.names.Ident.{Ident}
+use Rattle.surface_trees.specs.declared.names.Ident.TheVariants.{Source, Fresh}
+use Rattle.surface_trees.specs.Trees.{TypeExpr, TypeAt, Expr, ExprAt, Exprs, NoExprs, ExprThen}
 
 -- ---- names and places
 

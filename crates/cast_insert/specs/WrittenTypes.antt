@@ -2,8 +2,8 @@
 use Rattle.std.specs.Prelude.{ℕ, List, [], ◌∷◌}
 use Rattle.grift_base.specs.Types.{FunRow, TupleRow, RefRow, VectRow}
 use Rattle.type_graph.specs.Forming.{Forming, ◌>>=◌, formed, intern}
-use Rattle.surface_syntax.specs.Trees.{TypeExpr, TypeNode, TypeExprs, TypeAt, BaseType, FunType, TupleType, RefType}
-use Rattle.surface_syntax.specs.Trees.{VectType, NoTypes, TypeThen}
+use Rattle.surface_trees.specs.Trees.{TypeExpr, TypeNode, TypeExprs, TypeAt, BaseType, FunType, TupleType, RefType}
+use Rattle.surface_trees.specs.Trees.{VectType, NoTypes, TypeThen}
 
 abbrev mutual
   pub form_type : TypeExpr → Forming ℕ

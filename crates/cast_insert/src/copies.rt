@@ -7,7 +7,7 @@ use grift_base::lists::{Name, OutOfMemory};
 use grift_base::places::Pos;
 use grift_base::refusals::{FrontFault, Refusal, RefusalKind};
 use std::alloc::Global;
-use surface_syntax::names::Ident;
+use surface_trees::names::Ident;
 use type_graph::rows::{Row, TypeIds};
 
 pub(crate) fn refused<T>(kind: RefusalKind, pos: Pos) -> Result<T, FrontFault>

@@ -8,8 +8,8 @@ ghost use Rattle.type_graph.specs.Rows.{places_of};
 ghost use Rattle.type_graph.specs.TypeTables.{MayBePart};
 ghost use Rattle.core_calc.specs.Terms.{Group, Let, NoBindings, NoMembers, Seq, binding_list, member_list};
 ghost use Rattle.core_calc.specs.Views.{bindings_of, members_of, terms_of};
-ghost use Rattle.surface_syntax.specs.Trees.{AscribeNode, BeginNode, PrimNode, TupleNode};
-ghost use Rattle.surface_syntax.specs.Views.{expr_of, exprs_of, lambda_of, lets_of, letrecs_of, node_of, type_of};
+ghost use Rattle.surface_trees.specs.Trees.{AscribeNode, BeginNode, PrimNode, TupleNode};
+ghost use Rattle.surface_trees.specs.Views.{expr_of, exprs_of, lambda_of, lets_of, letrecs_of, node_of, type_of};
 ghost use Rattle.cast_insert.specs.Sources.{how_many, last_place};
 ghost use Rattle.cast_insert.specs.Making.{Makes, typed};
 ghost use Rattle.cast_insert.specs.Environments.{with_names};
@@ -46,8 +46,8 @@ use grift_base::operators::PrimOp;
 use grift_base::places::{Pos, TypeId};
 use grift_base::refusals::{FrontFault, RefusalKind};
 use std::alloc::Global;
-use surface_syntax::exprs::{Bindings, Expr, ExprList, ExprNode, LambdaExpr, Members};
-use surface_syntax::types::TypeExpr;
+use surface_trees::exprs::{Bindings, Expr, ExprList, ExprNode, LambdaExpr, Members};
+use surface_trees::types::TypeExpr;
 use type_graph::rows::{Row, TypeIds};
 
 /// Terms in order, and the type of the last.

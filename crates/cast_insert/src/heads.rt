@@ -4,7 +4,7 @@
 ghost use Rattle.std.specs.Prelude.{◌≡◌, ◌≤◌, ◌∷◌, ◌++◌, [], true, IfOk, OnOk, length};
 ghost use Rattle.type_graph.specs.Rows.{places_of};
 ghost use Rattle.type_graph.specs.TypeTables.{MayBePart};
-ghost use Rattle.surface_syntax.specs.Views.{lambda_of, letrecs_of, written_of};
+ghost use Rattle.surface_trees.specs.Views.{lambda_of, letrecs_of, written_of};
 ghost use Rattle.cast_insert.specs.Environments.{head_of, heads_of, names_of_heads, with_names};
 ghost use Rattle.cast_insert.specs.Environments.{consistent_if};
 ghost use Rattle.cast_insert.specs.Heads.{head_of_types, head_seen, heads_seen, lambda_in, name_in, place_in};
@@ -21,8 +21,8 @@ use grift_base::lists::OutOfMemory;
 use grift_base::places::{Pos, TypeId};
 use grift_base::refusals::FrontFault;
 use std::alloc::Global;
-use surface_syntax::exprs::{Member, Members};
-use surface_syntax::names::Ident;
+use surface_trees::exprs::{Member, Members};
+use surface_trees::names::Ident;
 use type_graph::rows::{Row, TypeIds};
 
 /// Of a member: its name, what the name means, the types of its parameters, and its result type.

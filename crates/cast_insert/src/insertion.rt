@@ -5,7 +5,7 @@ ghost use Rattle.std.specs.Prelude.{◌≡◌, [], IfErr, IfOk, length};
 ghost use Rattle.type_graph.specs.TypeTables.{IsOrderedTable};
 ghost use Rattle.core_calc.specs.Typing.{ProgramTermHasType};
 ghost use Rattle.core_calc.specs.Views.{term_of};
-ghost use Rattle.surface_syntax.specs.Views.{expr_of};
+ghost use Rattle.surface_trees.specs.Views.{expr_of};
 ghost use Rattle.cast_insert.specs.Elaboration.{elaborate_program, nothing_yet};
 ghost use Rattle.cast_insert.specs.Programs.{IsSource};
 ghost use Rattle.cast_insert.specs.Outcomes.{HasRowsAfter, Inserts};
@@ -20,7 +20,7 @@ use grift_base::places::{LabelTable, TypeId};
 use grift_base::refusals::FrontFault;
 use std::alloc::Global;
 use std::mem;
-use surface_syntax::exprs::Program;
+use surface_trees::exprs::Program;
 use type_graph::tables::TypeTable;
 
 /// A program with its casts: its term and its type, the labels that may be blamed in order of first use, and the

@@ -4,7 +4,7 @@
 ghost use Rattle.std.specs.Prelude.{◌≡◌, ◌∷◌, [], drop, IfOk, OnOk};
 ghost use Rattle.cast_insert.specs.Environments.{meaning_of, with_names};
 ghost use Rattle.std.specs.HashMap.{get};
-ghost use Rattle.surface_syntax.specs.contracts.names.IdentPartialEq.TheImpl.{ghosts};
+ghost use Rattle.surface_trees.specs.contracts.names.IdentPartialEq.TheImpl.{ghosts};
 ghost use Rattle.cast_insert.specs.Scoped.{env_of, kept_place};
 ghost use Rattle.cast_insert.specs.Views.{meaning_if, meaning_seen};
 
@@ -15,7 +15,7 @@ use grift_base::places::{Pos, TypeId};
 use indexmap::IndexMap;
 use std::alloc::Global;
 use std::marker::Model;
-use surface_syntax::names::Ident;
+use surface_trees::names::Ident;
 
 /// What a name means: its variable, its type, and for a function of a `letrec` with a written type that type and the
 /// place of its lambda.

@@ -4,7 +4,7 @@
 ghost use Rattle.std.specs.Prelude.{◌≡◌, ◌∷◌, IfOk, None, OnOk, length};
 ghost use Rattle.type_graph.specs.Rows.{places_of};
 ghost use Rattle.type_graph.specs.TypeTables.{MayBePart};
-ghost use Rattle.surface_syntax.specs.Views.{params_of, written_of};
+ghost use Rattle.surface_trees.specs.Views.{params_of, written_of};
 ghost use Rattle.core_calc.specs.Views.{names_of};
 ghost use Rattle.cast_insert.specs.Making.{Makes};
 ghost use Rattle.cast_insert.specs.Environments.{bind_names, parameter_types, plain, type_or_dyn, variables};
@@ -21,8 +21,8 @@ use grift_base::lists::OutOfMemory;
 use grift_base::places::{Pos, TypeId};
 use grift_base::refusals::FrontFault;
 use std::alloc::Global;
-use surface_syntax::names::Ident;
-use surface_syntax::types::{Param, TypeExpr};
+use surface_trees::names::Ident;
+use surface_trees::types::{Param, TypeExpr};
 use type_graph::rows::Row;
 
 /// A type that may be written, or Dyn.

@@ -6,7 +6,7 @@ ghost use Rattle.grift_base.specs.Types.{parts_of, row_at};
 ghost use Rattle.type_graph.specs.Forming.{intern};
 ghost use Rattle.type_graph.specs.Rows.{row_of};
 ghost use Rattle.type_graph.specs.TypeTables.{FitsTable, IsOrderedTable, MayBePart};
-ghost use Rattle.surface_syntax.specs.Views.{type_of, written_of};
+ghost use Rattle.surface_trees.specs.Views.{type_of, written_of};
 ghost use Rattle.cast_insert.specs.Making.{Makes, form, fresh, label_at, list_entry, not_too_large, are_consistent};
 ghost use Rattle.cast_insert.specs.Making.{cast_at, cast_to, cast_if, cast_to_row, written, written_if};
 ghost use Rattle.cast_insert.specs.Programs.{IsWrittenType, MayBeWritten};
@@ -22,7 +22,7 @@ use grift_base::lists::OutOfMemory;
 use grift_base::places::{LabelId, LabelTable, Pos, TypeId};
 use grift_base::refusals::{FrontFault, RefusalKind};
 use std::alloc::Global;
-use surface_syntax::types::TypeExpr;
+use surface_trees::types::TypeExpr;
 use type_graph::rows::Row;
 use type_graph::tables::TypeTable;
 

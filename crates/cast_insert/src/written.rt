@@ -6,7 +6,7 @@ ghost use Rattle.grift_base.specs.Types.{parts_of};
 ghost use Rattle.type_graph.specs.Forming.{intern};
 ghost use Rattle.type_graph.specs.Rows.{places_of, row_of};
 ghost use Rattle.type_graph.specs.TypeTables.{FitsTable, MayBePart};
-ghost use Rattle.surface_syntax.specs.Views.{type_node_of, type_of, types_of};
+ghost use Rattle.surface_trees.specs.Views.{type_node_of, type_of, types_of};
 ghost use Rattle.cast_insert.specs.Programs.{HasTypeWidths, HaveTypeWidths, NodeHasWidths, depth_of, depth_of_all};
 ghost use Rattle.cast_insert.specs.Programs.{depth_of_node, how_many_types, most_brackets};
 ghost use Rattle.cast_insert.specs.Room.{AreWithin, Grows, IsWithin, StandsOn};
@@ -16,7 +16,7 @@ use crate::copies::copy_of_row;
 use grift_base::lists::OutOfMemory;
 use grift_base::places::TypeId;
 use std::alloc::Global;
-use surface_syntax::types::{TypeExpr, TypeExprs, TypeNode};
+use surface_trees::types::{TypeExpr, TypeExprs, TypeNode};
 use type_graph::rows::{Row, TypeIds};
 use type_graph::tables::TypeTable;
 

@@ -7,7 +7,7 @@ use Rattle.rv_machine.specs.Mach.{mach}
 use Rattle.core_calc.specs.Calculus.{Program, calc}
 use Rattle.core_calc.specs.Typing.{ProgramTermHasType}
 use Rattle.core_calc.specs.Views.{term_of}
-use Rattle.surface_syntax.specs.Trees.{Expr}
+use Rattle.surface_trees.specs.Trees.{Expr}
 use Rattle.cast_insert.specs.declared.insertion.Elab.{Elab}
 use Rattle.cast_insert.specs.Making.{Entry}
 use Rattle.cast_insert.specs.Outcomes.{Elaborates}

@@ -7,7 +7,7 @@ use Rattle.grift_base.specs.declared.refusals.FrontFault.TheVariants.{Refused, O
 use Rattle.sexpr_reader.specs.Datum.{Datums}
 use Rattle.sexpr_reader.specs.Grammar.{Reads}
 use Rattle.surface_syntax.specs.Marked.{all_marked}
-use Rattle.surface_syntax.specs.Trees.{Expr}
+use Rattle.surface_trees.specs.Trees.{Expr}
 use Rattle.surface_syntax.specs.Programs.{AreExpr}
 use Rattle.cast_insert.specs.declared.insertion.Elab.{Elab}
 use Rattle.cast_insert.specs.Elaboration.{elaborate_program}

@@ -7,7 +7,7 @@ use Rattle.sexpr_reader.specs.Refused.{IsRefused as HasRefusedTokens}
 use Rattle.sexpr_reader.proofs.Public.{a_text_reads_or_is_refused, what_reads_is_not_refused, a_text_has_one_reading}
 use Rattle.sexpr_reader.proofs.Public.{a_text_has_one_refusal}
 use Rattle.surface_syntax.specs.Marked.{all_marked}
-use Rattle.surface_syntax.specs.Trees.{Expr}
+use Rattle.surface_trees.specs.Trees.{Expr}
 use Rattle.surface_syntax.specs.Written.{Top}
 use Rattle.surface_syntax.specs.Expansion.{expand_program}
 use Rattle.surface_syntax.specs.Walking.{Walked, Reads as WalkReads, Refuses}

@@ -13,10 +13,10 @@ use Rattle.core_calc.specs.Terms.{Call}
 use Rattle.core_calc.specs.Terms.{Enter, If, Seq, Cast, Proj, ProjDyn, Tuple, Prim, ValueTerm, NoTerms, TermThen}
 use Rattle.core_calc.specs.Terms.{NoMembers, MemberThen, NoBindings, BindingThen}
 use Rattle.core_calc.proofs.Public.{get_kept, get_last}
-use Rattle.surface_syntax.specs.Trees.{TypeExpr, Param, Expr, ExprNode, LambdaExpr, Exprs, LetBindings, LetrecMembers}
-use Rattle.surface_syntax.specs.Trees.{ExprAt, IntNode, BoolNode, UnitNode, NameNode, LambdaNode, CallNode, LetNode}
-use Rattle.surface_syntax.specs.Trees.{LetrecNode, IfNode, BeginNode, AscribeNode, TupleNode, ProjNode, PrimNode}
-use Rattle.surface_syntax.specs.Trees.{LambdaAt, NoExprs, ExprThen, NoLets, LetThen, NoLetrecs, LetrecThen}
+use Rattle.surface_trees.specs.Trees.{TypeExpr, Param, Expr, ExprNode, LambdaExpr, Exprs, LetBindings, LetrecMembers}
+use Rattle.surface_trees.specs.Trees.{ExprAt, IntNode, BoolNode, UnitNode, NameNode, LambdaNode, CallNode, LetNode}
+use Rattle.surface_trees.specs.Trees.{LetrecNode, IfNode, BeginNode, AscribeNode, TupleNode, ProjNode, PrimNode}
+use Rattle.surface_trees.specs.Trees.{LambdaAt, NoExprs, ExprThen, NoLets, LetThen, NoLetrecs, LetrecThen}
 use Rattle.cast_insert.specs.Sources.{place_of, how_many}
 use Rattle.cast_insert.specs.Making.{Entry, CastFrom, PartOf, Work, Made, Makes, Refuses, Making, then_make, ◌>>=◌}
 use Rattle.cast_insert.specs.Making.{give}

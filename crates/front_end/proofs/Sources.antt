@@ -11,14 +11,14 @@ use Rattle.grift_base.specs.declared.operators.PrimOp.TheVariants.{MakeVector, V
 use Rattle.sexpr_reader.specs.Datum.{Datums}
 use Rattle.sexpr_reader.specs.Token.{tokens}
 use Rattle.sexpr_reader.specs.Grammar.{Reads}
-use Rattle.surface_syntax.specs.declared.names.Ident.{Ident}
-use Rattle.surface_syntax.specs.declared.names.Ident.TheVariants.{Source, Fresh}
+use Rattle.surface_trees.specs.declared.names.Ident.{Ident}
+use Rattle.surface_trees.specs.declared.names.Ident.TheVariants.{Source, Fresh}
 use Rattle.surface_syntax.specs.declared.derived.LoopNames.{LoopNames}
 use Rattle.surface_syntax.specs.Words.{operand_count}
 use Rattle.surface_syntax.specs.Marked.{Sexpr, Sexprs, ◌▹◌, all_marked}
 use Rattle.surface_syntax.specs.Marked.{how_many as how_many_sexprs}
-use Rattle.surface_syntax.specs.Trees.{TypeExpr, TypeExprs, Param, Expr, ExprAt, Exprs, NoExprs}
-use Rattle.surface_syntax.specs.Trees.{ExprThen, CallNode, LambdaExpr, LetBindings, NoLets, LetThen}
+use Rattle.surface_trees.specs.Trees.{TypeExpr, TypeExprs, Param, Expr, ExprAt, Exprs, NoExprs}
+use Rattle.surface_trees.specs.Trees.{ExprThen, CallNode, LambdaExpr, LetBindings, NoLets, LetThen}
 use Rattle.surface_syntax.specs.Written.{Form, Forms, LambdaWritten, LetForms, LetrecForms, Top}
 use Rattle.surface_syntax.specs.Expansion.{◌>>=◌, chain_of, one_expr, two_exprs, name_at, int_at, goes_on, next_count}
 use Rattle.surface_syntax.specs.Expansion.{loop_of, counting, gathering, repeat_of, repeat_into_of, loop_names}

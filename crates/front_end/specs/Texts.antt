@@ -9,7 +9,7 @@ use Rattle.sexpr_reader.specs.Datum.{Datums}
 use Rattle.sexpr_reader.specs.Grammar.{Reads}
 use Rattle.sexpr_reader.specs.Refused.{IsRefused as HasRefusedTokens}
 use Rattle.surface_syntax.specs.Marked.{all_marked, how_many}
-use Rattle.surface_syntax.specs.Trees.{Expr}
+use Rattle.surface_trees.specs.Trees.{Expr}
 use Rattle.surface_syntax.specs.Walking.{Refuses}
 use Rattle.surface_syntax.specs.TopWalk.{walk_program}
 use Rattle.surface_syntax.specs.Programs.{AreExpr, AreNoProgram}

@@ -9,8 +9,8 @@ ghost use Rattle.sexpr_reader.specs.Datum.{Datums};
 ghost use Rattle.sexpr_reader.specs.Grammar.{Reads};
 ghost use Rattle.surface_syntax.specs.Marked.{all_marked};
 ghost use Rattle.surface_syntax.specs.Programs.{AreExpr};
-ghost use Rattle.surface_syntax.specs.Trees.{Expr};
-ghost use Rattle.surface_syntax.specs.Views.{expr_of};
+ghost use Rattle.surface_trees.specs.Trees.{Expr};
+ghost use Rattle.surface_trees.specs.Views.{expr_of};
 ghost use Rattle.cast_insert.specs.Elaboration.{elaborate_program};
 ghost use Rattle.cast_insert.specs.Outcomes.{Outcome, Elaborates, outcome_of};
 ghost use Rattle.cast_insert.specs.Programs.{IsSource};
@@ -22,8 +22,8 @@ use cast_insert::insertion::{Elab, insert};
 use grift_base::refusals::FrontFault;
 use sexpr_reader::read;
 use std::alloc::Global;
-use surface_syntax::exprs::Program;
 use surface_syntax::parse_program;
+use surface_trees::exprs::Program;
 use type_graph::tables::TypeTable;
 
 /// A source that was elaborated: its program, the types, and the program with all casts.

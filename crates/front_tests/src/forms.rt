@@ -7,11 +7,11 @@ use sexpr_reader::read;
 use std::alloc::Global;
 use std::fmt::Write;
 use std::test::Fail;
-use surface_syntax::exprs::{Bindings, Expr, ExprList, ExprNode, LambdaExpr, Members, Program};
-use surface_syntax::names::Ident;
 use surface_syntax::parse_program;
-use surface_syntax::types::{Params, TypeExpr, TypeExprs, TypeNode};
 use surface_syntax::words::operator_text;
+use surface_trees::exprs::{Bindings, Expr, ExprList, ExprNode, LambdaExpr, Members, Program};
+use surface_trees::names::Ident;
+use surface_trees::types::{Params, TypeExpr, TypeExprs, TypeNode};
 use type_graph::rows::Row;
 
 // The program that a text is, where it is short enough.

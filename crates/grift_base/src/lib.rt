@@ -3,6 +3,7 @@
 
 pub mod environment;
 pub mod lists;
+pub mod made;
 pub mod numbers;
 pub mod operators;
 pub mod places;

@@ -2,7 +2,7 @@
 use Rattle.std.specs.Prelude.{ℕ, ◌≡◌, List, [], ◌++◌, codes, length, Some}
 use Rattle.grift_base.specs.Sink.{SinkSeen, Untouched, Takes, Breaks}
 use Rattle.grift_base.specs.declared.verdicts.Verdict.{Verdict}
-use Rattle.surface_syntax.specs.Trees.{Expr}
+use Rattle.surface_trees.specs.Trees.{Expr}
 use Rattle.cast_insert.specs.Outcomes.{IsRefused}
 use Rattle.front_end.specs.Texts.{HasOutcome, IsProgramOf}
 use Rattle.grift_gen.specs.Family.{family_text}

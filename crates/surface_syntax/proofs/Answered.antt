@@ -7,7 +7,7 @@ use Rattle.grift_base.specs.declared.refusals.FrontFault.{FrontFault}
 use Rattle.grift_base.specs.declared.refusals.FrontFault.TheVariants.{Refused, OutOfMemory}
 use Rattle.sexpr_reader.specs.Datum.{Datums, depth_of as datums_depth}
 use Rattle.surface_syntax.specs.Marked.{Sexprs, all_marked, how_many}
-use Rattle.surface_syntax.specs.Trees.{Expr}
+use Rattle.surface_trees.specs.Trees.{Expr}
 use Rattle.surface_syntax.specs.Written.{Top}
 use Rattle.surface_syntax.specs.Walking.{Walked, Reads, Refuses}
 use Rattle.surface_syntax.specs.TopWalk.{walk_program}

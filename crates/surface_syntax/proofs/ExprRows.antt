@@ -14,7 +14,7 @@ use Rattle.surface_syntax.specs.declared.words.Mark.{Mark}
 use Rattle.surface_syntax.specs.declared.words.Mark.TheVariants.{Reserved, Free}
 use Rattle.surface_syntax.specs.Marked.{Sexpr, Sexprs, number, truth_value, word, name, list, end, ◌▹◌, place}
 use Rattle.surface_syntax.specs.Marked.{reserved_at, marked_symbol}
-use Rattle.surface_syntax.specs.Trees.{Expr, ExprAt, ProjNode, LambdaAt, ExprThen}
+use Rattle.surface_trees.specs.Trees.{Expr, ExprAt, ProjNode, LambdaAt, ExprThen}
 use Rattle.surface_syntax.specs.Walking.{Reads, Refuses, some, is_colon, is_lambda_at}
 use Rattle.surface_syntax.specs.Walk.{walk_type, walk_param_list}
 use Rattle.surface_syntax.specs.Pass.{Parsing, then_with, paired, parse, parse_list, parse_part, parse_each}

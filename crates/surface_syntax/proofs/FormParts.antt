@@ -13,7 +13,7 @@ use Rattle.surface_syntax.specs.declared.operands.Head.TheVariants.{Operator as 
 use Rattle.surface_syntax.specs.Words.{is_arrow_word, operand_count}
 use Rattle.surface_syntax.specs.Marked.{Sexpr, Sexprs, number, word, name, list, end, ◌▹◌, place}
 use Rattle.surface_syntax.specs.Marked.{reserved_at, how_many}
-use Rattle.surface_syntax.specs.Trees.{TypeExpr, Param, ExprAt, LambdaNode, AscribeNode}
+use Rattle.surface_trees.specs.Trees.{TypeExpr, Param, ExprAt, LambdaNode, AscribeNode}
 use Rattle.surface_syntax.specs.Walking.{Walked, Reads, Refuses, followed_by, test, binder, colon}
 use Rattle.surface_syntax.specs.Walk.{Bound, walk_type, walk_param_list}
 use Rattle.surface_syntax.specs.TopWalk.{has_body}

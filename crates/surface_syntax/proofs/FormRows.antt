@@ -10,7 +10,7 @@ use Rattle.surface_syntax.specs.declared.words.Word.TheVariants.{Colon}
 use Rattle.surface_syntax.specs.declared.words.Mark.{Mark}
 use Rattle.surface_syntax.specs.declared.words.Mark.TheVariants.{Reserved, Free}
 use Rattle.surface_syntax.specs.Marked.{Sexpr, Sexprs, number, word, end, ◌▹◌, marked_symbol}
-use Rattle.surface_syntax.specs.Trees.{TypeExpr}
+use Rattle.surface_trees.specs.Trees.{TypeExpr}
 use Rattle.surface_syntax.specs.Walking.{Walked, Reads, Refuses, followed_by}
 use Rattle.surface_syntax.specs.Walk.{walk_param_list}
 use Rattle.surface_syntax.specs.TopWalk.{has_body}

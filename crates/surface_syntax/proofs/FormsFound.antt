@@ -5,8 +5,8 @@ use Rattle.std.specs.Prelude.{pos, not, Option, Some, None}
 use Rattle.std.proofs.lemmas.Bool.{eqb-true}
 use Rattle.grift_base.specs.declared.places.Pos.{Pos}
 use Rattle.grift_base.specs.declared.refusals.RefusalKind.TheVariants.{BadForm, RepeatedName}
-use Rattle.surface_syntax.specs.Trees.{TypeExpr, Param}
-use Rattle.surface_syntax.specs.declared.names.Ident.TheVariants.{Source}
+use Rattle.surface_trees.specs.Trees.{TypeExpr, Param}
+use Rattle.surface_trees.specs.declared.names.Ident.TheVariants.{Source}
 use Rattle.surface_syntax.specs.declared.words.Word.{Word}
 use Rattle.surface_syntax.specs.declared.words.Word.TheVariants.{Lambda, Let, Letrec, If, Begin, And, Or, Repeat, Tuple}
 use Rattle.surface_syntax.specs.declared.words.Word.TheVariants.{TupleProj, Colon, Arrow, Operator}

@@ -5,7 +5,7 @@ use Rattle.std.specs.Prelude.{not, None}
 use Rattle.std.proofs.lemmas.Bool.{eq-eqb}
 use Rattle.grift_base.specs.declared.places.Pos.{Pos}
 use Rattle.grift_base.specs.declared.refusals.RefusalKind.TheVariants.{BadForm, RepeatedName}
-use Rattle.surface_syntax.specs.Trees.{TypeExpr, Param}
+use Rattle.surface_trees.specs.Trees.{TypeExpr, Param}
 use Rattle.surface_syntax.specs.Marked.{Sexpr, Sexprs, number, truth_value, word, name, list, end, ◌▹◌, how_many}
 use Rattle.surface_syntax.specs.Written.{Form, FormAt, CallForm, Forms, LambdaWritten, LambdaFrom, LetForms}
 use Rattle.surface_syntax.specs.Written.{LetrecForms}

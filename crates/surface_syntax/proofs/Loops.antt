@@ -1,17 +1,17 @@
 -- Lists that are read element by element: those that are done, and what is read behind them.
 use Rattle.std.proofs.Common.{◌≡◌, ℕ, List, [], ◌∷◌, ◌++◌, refl, sym, ap, ◌∙◌}
-use Rattle.surface_syntax.specs.declared.names.Ident.TheVariants.{Source}
-use Rattle.surface_syntax.specs.declared.exprs.Expr.{Expr as RustExpr}
-use Rattle.surface_syntax.specs.declared.exprs.Binding.{Binding as RustBinding}
-use Rattle.surface_syntax.specs.declared.exprs.Member.{Member as RustMember}
+use Rattle.surface_trees.specs.declared.names.Ident.TheVariants.{Source}
+use Rattle.surface_trees.specs.declared.exprs.Expr.{Expr as RustExpr}
+use Rattle.surface_trees.specs.declared.exprs.Binding.{Binding as RustBinding}
+use Rattle.surface_trees.specs.declared.exprs.Member.{Member as RustMember}
 use Rattle.surface_syntax.specs.Marked.{Sexpr, Sexprs, ◌▹◌}
-use Rattle.surface_syntax.specs.Trees.{Expr, LambdaExpr, Exprs, ExprThen, LetBindings, LetThen, LetrecMembers}
-use Rattle.surface_syntax.specs.Trees.{LetrecThen}
+use Rattle.surface_trees.specs.Trees.{Expr, LambdaExpr, Exprs, ExprThen, LetBindings, LetThen, LetrecMembers}
+use Rattle.surface_trees.specs.Trees.{LetrecThen}
 use Rattle.surface_syntax.specs.Walking.{Walked, Reads, Refuses}
 use Rattle.surface_syntax.specs.Walk.{Bound}
 use Rattle.surface_syntax.specs.Pass.{Parsing, then_with, parse, parse_each, parse_binding, parse_lets, parse_member}
 use Rattle.surface_syntax.specs.Pass.{parse_letrecs}
-use Rattle.surface_syntax.specs.Views.{expr_of, source_of}
+use Rattle.surface_trees.specs.Views.{expr_of, source_of}
 use Rattle.surface_syntax.specs.Parts.{exprs_before, lets_before, letrecs_before, name_of_binding, type_of_binding}
 use Rattle.surface_syntax.specs.Parts.{value_of_binding, bound_of, name_of_member, type_of_member, fun_of_member}
 use Rattle.surface_syntax.specs.Parts.{member_of}

@@ -6,12 +6,12 @@ use Rattle.grift_base.specs.declared.refusals.RefusalKind.{RefusalKind}
 use Rattle.grift_base.specs.declared.refusals.RefusalKind.TheVariants.{BadForm, TooWide}
 use Rattle.surface_syntax.specs.declared.words.Mark.{Mark}
 use Rattle.surface_syntax.specs.declared.words.Mark.TheVariants.{Reserved, Free}
-use Rattle.surface_syntax.specs.declared.types.Param.{Param as RustParam}
+use Rattle.surface_trees.specs.declared.types.Param.{Param as RustParam}
 use Rattle.surface_syntax.specs.Marked.{Sexpr, Sexprs, end, ◌▹◌, place, marked_symbol}
-use Rattle.surface_syntax.specs.Trees.{Param}
+use Rattle.surface_trees.specs.Trees.{Param}
 use Rattle.surface_syntax.specs.Walking.{Walked, Reads, Refuses, followed_by}
 use Rattle.surface_syntax.specs.Walk.{plain_param, walk_param, walk_params, walk_param_list}
-use Rattle.surface_syntax.specs.Views.{source_of, param_of, params_of, named_param_of}
+use Rattle.surface_trees.specs.Views.{source_of, param_of, params_of, named_param_of}
 use Rattle.surface_syntax.proofs.Steps.{place_symbol, place_marked, reads_then, refuses_then, colon_stands, colon_lacks}
 
 pub symbol_param : (seen : List (List ℕ)) (p : Pos) (x : List ℕ) (m : Mark)

@@ -19,7 +19,7 @@ use Rattle.surface_syntax.specs.declared.tops.Part.{Part as RustPart}
 use Rattle.surface_syntax.specs.Marked.{Sexpr, Sexprs, number, truth_value, word, name, list, end, ◌▹◌, place}
 use Rattle.surface_syntax.specs.Words.{mark_of}
 use Rattle.surface_syntax.specs.Marked.{marked_symbol, marked}
-use Rattle.surface_syntax.specs.Trees.{TypeExpr, Param, LambdaExpr}
+use Rattle.surface_trees.specs.Trees.{TypeExpr, Param, LambdaExpr}
 use Rattle.surface_syntax.specs.Walking.{Walked, Reads, Refuses, test, binder, colon, is_lambda_at}
 use Rattle.surface_syntax.specs.Walk.{walk_type, walk_params}
 use Rattle.surface_syntax.specs.TopWalk.{has_body, run_for}

@@ -3,9 +3,9 @@ use Rattle.std.proofs.Common.{◌≡◌, ◌≤◌, ◌+◌, ◌*◌, ℕ, zero,
 use Rattle.std.proofs.Common.{refl, arith}
 use Rattle.std.proofs.lemmas.Bool.Decides.{nat_tests}
 use Rattle.grift_base.specs.declared.places.Pos.{Pos}
-use Rattle.surface_syntax.specs.declared.names.Ident.TheVariants.{Fresh}
+use Rattle.surface_trees.specs.declared.names.Ident.TheVariants.{Fresh}
 use Rattle.surface_syntax.specs.Marked.{Sexpr, Sexprs, number, truth_value, word, name, list, end, ◌▹◌, how_many}
-use Rattle.surface_syntax.specs.Trees.{TypeExpr, Param, Expr, Exprs, NoExprs, ExprThen}
+use Rattle.surface_trees.specs.Trees.{TypeExpr, Param, Expr, Exprs, NoExprs, ExprThen}
 use Rattle.surface_syntax.specs.Written.{Form, Forms, LambdaWritten, LetForms, LetrecForms}
 use Rattle.surface_syntax.specs.Expansion.{◌>>=◌, chain_of, repeat_of, repeat_into_of, loop_names, type_or_dyn, expand}
 use Rattle.surface_syntax.specs.Expansion.{expand_all, expand_lambda, expand_lets, expand_letrecs}

@@ -21,7 +21,7 @@ use Rattle.surface_syntax.specs.declared.words.Mark.TheVariants.{Reserved, Free}
 use Rattle.surface_syntax.specs.Words.{is_colon_word, is_arrow_word, is_lambda_word, is_define_word, mark_of}
 use Rattle.surface_syntax.specs.Marked.{Sexpr, Sexprs, number, truth_value, word, name, list, ◌▹◌, place}
 use Rattle.surface_syntax.specs.Marked.{reserved_at, marked, all_marked, marked_symbol}
-use Rattle.surface_syntax.specs.Trees.{TypeThen, NoTypes}
+use Rattle.surface_trees.specs.Trees.{TypeThen, NoTypes}
 use Rattle.surface_syntax.specs.Walking.{Walked, Reads, Refuses, followed_by, test, colon, is_colon}
 use Rattle.surface_syntax.specs.Walking.{is_arrow_at, is_lambda_at, is_define_at, is_arrow, is_result}
 use Rattle.surface_syntax.specs.Walk.{walk_type, walk_only, walk_types, walk_signature}

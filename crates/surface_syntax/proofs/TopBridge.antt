@@ -5,7 +5,7 @@ use Rattle.grift_base.specs.declared.places.Pos.{Pos}
 use Rattle.grift_base.specs.declared.refusals.RefusalKind.TheVariants.{BadForm}
 use Rattle.surface_syntax.specs.declared.words.Word.TheVariants.{Lambda, Define}
 use Rattle.surface_syntax.specs.Marked.{Sexpr, Sexprs, word, list, end, ◌▹◌, place}
-use Rattle.surface_syntax.specs.Trees.{TypeExpr}
+use Rattle.surface_trees.specs.Trees.{TypeExpr}
 use Rattle.surface_syntax.specs.Written.{Form, LambdaWritten, Top, ExprTop, ValueTop, FunctionTop}
 use Rattle.surface_syntax.specs.Walking.{Walked, Reads, Refuses, followed_by, test, colon, binder}
 use Rattle.surface_syntax.specs.Walk.{walk, walk_type, walk_lambda}

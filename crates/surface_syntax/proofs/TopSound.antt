@@ -9,7 +9,7 @@ use Rattle.surface_syntax.specs.declared.words.Mark.{Mark}
 use Rattle.surface_syntax.specs.declared.words.Mark.TheVariants.{Reserved, Free}
 use Rattle.surface_syntax.specs.Words.{mark_of}
 use Rattle.surface_syntax.specs.Marked.{Sexpr, Sexprs, how_many, marked, all_marked, marked_symbol}
-use Rattle.surface_syntax.specs.Trees.{TypeExpr}
+use Rattle.surface_trees.specs.Trees.{TypeExpr}
 use Rattle.surface_syntax.specs.Written.{Top}
 use Rattle.surface_syntax.specs.Expansion.{◌>>=◌, Part, ExprPart, ValuePart, FunctionPart, expand_top, expand_tops}
 use Rattle.surface_syntax.specs.Expansion.{Rest, Alone, Run, closed, before, ending, joined, whole, expand_program}

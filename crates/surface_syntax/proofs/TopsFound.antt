@@ -4,7 +4,7 @@ use Rattle.std.proofs.Common.{subst, sym}
 use Rattle.std.specs.Prelude.{Option, Some, None}
 use Rattle.grift_base.specs.declared.places.Pos.{Pos}
 use Rattle.grift_base.specs.declared.refusals.RefusalKind.TheVariants.{BadForm}
-use Rattle.surface_syntax.specs.Trees.{TypeExpr}
+use Rattle.surface_trees.specs.Trees.{TypeExpr}
 use Rattle.surface_syntax.specs.declared.words.Word.TheVariants.{Lambda, Define}
 use Rattle.surface_syntax.specs.Marked.{Sexpr, Sexprs, word, list, end, ◌▹◌, place, how_many}
 use Rattle.surface_syntax.specs.Written.{Top, ExprTop, ValueTop, FunctionTop}

@@ -3,7 +3,7 @@ use Rattle.std.proofs.Common.{◌≡◌, ◌≤◌, zero, suc, ℕ, Bool, true, 
 use Rattle.std.proofs.Common.{arith}
 use Rattle.std.specs.Prelude.{Option, Some, None}
 use Rattle.grift_base.specs.declared.places.Pos.{Pos}
-use Rattle.surface_syntax.specs.Trees.{TypeExpr}
+use Rattle.surface_trees.specs.Trees.{TypeExpr}
 use Rattle.surface_syntax.specs.declared.words.Word.TheVariants.{Lambda}
 use Rattle.surface_syntax.specs.declared.words.Word.TheVariants.{Define, Colon}
 use Rattle.surface_syntax.specs.Marked.{Sexpr, Sexprs, number, truth_value, word, name, list, end, ◌▹◌, place, how_many}

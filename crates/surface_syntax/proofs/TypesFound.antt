@@ -3,8 +3,8 @@ use Rattle.std.proofs.Common.{◌≡◌, ◌≤◌, ℕ, zero, suc, true, List, 
 use Rattle.std.proofs.Common.{subst, arith}
 use Rattle.grift_base.specs.declared.places.Pos.{Pos}
 use Rattle.grift_base.specs.declared.refusals.RefusalKind.TheVariants.{BadForm}
-use Rattle.surface_syntax.specs.Trees.{TypeExpr, TypeAt, TupleType, RefType, VectType, TypeExprs}
-use Rattle.surface_syntax.specs.Trees.{NoTypes}
+use Rattle.surface_trees.specs.Trees.{TypeExpr, TypeAt, TupleType, RefType, VectType, TypeExprs}
+use Rattle.surface_trees.specs.Trees.{NoTypes}
 use Rattle.surface_syntax.specs.declared.words.Word.TheVariants.{Arrow}
 use Rattle.surface_syntax.specs.declared.words.TypeWord.TheVariants.{Int, Bool as BoolWord, Unit as UnitWord, Dyn}
 use Rattle.surface_syntax.specs.declared.words.TypeWord.TheVariants.{Tuple as TupleWord, Ref, Vect, Rec}

@@ -2,7 +2,7 @@
 use Rattle.std.proofs.Common.{◌≡◌, ◌≤◌, ℕ, zero, suc, true, false, refl, ap, ◌∙◌, arith}
 use Rattle.grift_base.specs.declared.places.Pos.{Pos}
 use Rattle.grift_base.specs.declared.refusals.RefusalKind.TheVariants.{BadForm}
-use Rattle.surface_syntax.specs.Trees.{TypeExpr, TypeAt, FunType, TypeExprs, TypeThen, NoTypes}
+use Rattle.surface_trees.specs.Trees.{TypeExpr, TypeAt, FunType, TypeExprs, TypeThen, NoTypes}
 use Rattle.surface_syntax.specs.declared.words.Word.TheVariants.{Arrow}
 use Rattle.surface_syntax.specs.declared.words.TypeWord.TheVariants.{Tuple as TupleWord, Ref, Vect, Rec}
 use Rattle.surface_syntax.specs.Marked.{Sexpr, Sexprs, number, truth_value, word, name, list, end, ◌▹◌, how_many}

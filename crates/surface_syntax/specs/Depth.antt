@@ -1,9 +1,9 @@
 -- How deep s-expressions and expressions nest. The tail of a list is no deeper than the list.
 use Rattle.std.specs.Prelude.{ℕ, ◌+◌, max}
-use Rattle.surface_syntax.specs.Trees.{Expr, ExprAt, ExprNode, IntNode, BoolNode, UnitNode, NameNode, LambdaNode}
-use Rattle.surface_syntax.specs.Trees.{CallNode, LetNode, LetrecNode, IfNode, BeginNode, AscribeNode, TupleNode}
-use Rattle.surface_syntax.specs.Trees.{ProjNode, PrimNode, LambdaExpr, LambdaAt, Exprs, NoExprs, ExprThen, LetBindings}
-use Rattle.surface_syntax.specs.Trees.{NoLets, LetThen, LetrecMembers, NoLetrecs, LetrecThen}
+use Rattle.surface_trees.specs.Trees.{Expr, ExprAt, ExprNode, IntNode, BoolNode, UnitNode, NameNode, LambdaNode}
+use Rattle.surface_trees.specs.Trees.{CallNode, LetNode, LetrecNode, IfNode, BeginNode, AscribeNode, TupleNode}
+use Rattle.surface_trees.specs.Trees.{ProjNode, PrimNode, LambdaExpr, LambdaAt, Exprs, NoExprs, ExprThen, LetBindings}
+use Rattle.surface_trees.specs.Trees.{NoLets, LetThen, LetrecMembers, NoLetrecs, LetrecThen}
 
 abbrev mutual
   -- an expression without parts 1, another one more than its deepest part

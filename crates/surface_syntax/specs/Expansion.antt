@@ -3,13 +3,13 @@ use Rattle.std.specs.Prelude.{ℕ, ◌+◌, pos, Bool, true, false, List, [], �
 use Rattle.grift_base.specs.declared.places.Pos.{Pos}
 use Rattle.grift_base.specs.declared.operators.PrimOp.TheVariants.{Add, Lt}
 use Rattle.grift_base.specs.Types.{IntRow, UnitRow, DynRow}
-use Rattle.surface_syntax.specs.declared.names.Ident.{Ident}
-use Rattle.surface_syntax.specs.declared.names.Ident.TheVariants.{Source, Fresh}
+use Rattle.surface_trees.specs.declared.names.Ident.{Ident}
+use Rattle.surface_trees.specs.declared.names.Ident.TheVariants.{Source, Fresh}
 use Rattle.surface_syntax.specs.declared.derived.LoopNames.{LoopNames}
-use Rattle.surface_syntax.specs.Trees.{TypeExpr, TypeAt, BaseType, Param, Expr, ExprAt, IntNode, BoolNode, UnitNode}
-use Rattle.surface_syntax.specs.Trees.{NameNode, LambdaNode, CallNode, LetNode, LetrecNode, IfNode, BeginNode}
-use Rattle.surface_syntax.specs.Trees.{AscribeNode, TupleNode, ProjNode, PrimNode, LambdaExpr, LambdaAt, Exprs, NoExprs}
-use Rattle.surface_syntax.specs.Trees.{ExprThen, LetBindings, NoLets, LetThen, LetrecMembers, NoLetrecs, LetrecThen}
+use Rattle.surface_trees.specs.Trees.{TypeExpr, TypeAt, BaseType, Param, Expr, ExprAt, IntNode, BoolNode, UnitNode}
+use Rattle.surface_trees.specs.Trees.{NameNode, LambdaNode, CallNode, LetNode, LetrecNode, IfNode, BeginNode}
+use Rattle.surface_trees.specs.Trees.{AscribeNode, TupleNode, ProjNode, PrimNode, LambdaExpr, LambdaAt, Exprs, NoExprs}
+use Rattle.surface_trees.specs.Trees.{ExprThen, LetBindings, NoLets, LetThen, LetrecMembers, NoLetrecs, LetrecThen}
 use Rattle.surface_syntax.specs.Written.{Form, FormAt, FormNode, IntForm, BoolForm, UnitForm, NameForm, LambdaForm}
 use Rattle.surface_syntax.specs.Written.{CallForm, LetForm, LetrecForm, IfForm, BeginForm, AscribeForm, AndForm, OrForm}
 use Rattle.surface_syntax.specs.Written.{RepeatForm, RepeatIntoForm, TupleForm, ProjForm, PrimForm, LambdaWritten}

@@ -10,9 +10,9 @@ use Rattle.surface_syntax.specs.declared.operands.Head.{Head}
 use Rattle.surface_syntax.specs.declared.operands.Head.TheVariants.{Begin, Tuple, And, Or, Operator}
 use Rattle.surface_syntax.specs.Words.{operand_count}
 use Rattle.surface_syntax.specs.Marked.{Sexpr, Sexprs, place, how_many}
-use Rattle.surface_syntax.specs.Trees.{TypeExpr, Param, Expr, ExprAt, LambdaNode, LetNode}
-use Rattle.surface_syntax.specs.Trees.{LetrecNode, IfNode, BeginNode, AscribeNode, TupleNode, ProjNode, PrimNode}
-use Rattle.surface_syntax.specs.Trees.{LambdaExpr, LambdaAt, Exprs}
+use Rattle.surface_trees.specs.Trees.{TypeExpr, Param, Expr, ExprAt, LambdaNode, LetNode}
+use Rattle.surface_trees.specs.Trees.{LetrecNode, IfNode, BeginNode, AscribeNode, TupleNode, ProjNode, PrimNode}
+use Rattle.surface_trees.specs.Trees.{LambdaExpr, LambdaAt, Exprs}
 use Rattle.surface_syntax.specs.Walking.{Walked, Reads, followed_by, test, some, colon, binder}
 use Rattle.surface_syntax.specs.Walk.{Bound, walk_type, walk_param_list}
 use Rattle.surface_syntax.specs.Expansion.{chain_of, fresh, loop_names, repeat_of, repeat_into_of, type_or_dyn}

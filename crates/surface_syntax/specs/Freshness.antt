@@ -1,11 +1,11 @@
 -- How often a fresh name is bound.
 use Rattle.std.specs.Prelude.{◌≡◌, ℕ, ◌+◌, cond, nat_eq, nat_lt, List, [], ◌∷◌}
-use Rattle.surface_syntax.specs.declared.names.Ident.{Ident}
-use Rattle.surface_syntax.specs.declared.names.Ident.TheVariants.{Source, Fresh}
-use Rattle.surface_syntax.specs.Trees.{Param, Expr, ExprAt, ExprNode, IntNode, BoolNode, UnitNode, NameNode}
-use Rattle.surface_syntax.specs.Trees.{LambdaNode, CallNode, LetNode, LetrecNode, IfNode, BeginNode, AscribeNode}
-use Rattle.surface_syntax.specs.Trees.{TupleNode, ProjNode, PrimNode, LambdaExpr, LambdaAt, Exprs, NoExprs, ExprThen}
-use Rattle.surface_syntax.specs.Trees.{LetBindings, NoLets, LetThen, LetrecMembers, NoLetrecs, LetrecThen}
+use Rattle.surface_trees.specs.declared.names.Ident.{Ident}
+use Rattle.surface_trees.specs.declared.names.Ident.TheVariants.{Source, Fresh}
+use Rattle.surface_trees.specs.Trees.{Param, Expr, ExprAt, ExprNode, IntNode, BoolNode, UnitNode, NameNode}
+use Rattle.surface_trees.specs.Trees.{LambdaNode, CallNode, LetNode, LetrecNode, IfNode, BeginNode, AscribeNode}
+use Rattle.surface_trees.specs.Trees.{TupleNode, ProjNode, PrimNode, LambdaExpr, LambdaAt, Exprs, NoExprs, ExprThen}
+use Rattle.surface_trees.specs.Trees.{LetBindings, NoLets, LetThen, LetrecMembers, NoLetrecs, LetrecThen}
 
 -- 1 where a name is the fresh one with this number, else 0
 abbrev pub is_fresh : ℕ → Ident → ℕ

@@ -1,6 +1,5 @@
 pub mod Words
 pub mod Marked
-pub mod Trees
 pub mod Written
 pub mod Table
 pub mod TopTable
@@ -9,7 +8,6 @@ pub mod Walk
 pub mod TopWalk
 pub mod Expansion
 pub mod Pass
-pub mod Views
 pub mod Elements
 pub mod Claims
 pub mod Parts

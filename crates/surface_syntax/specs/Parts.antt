@@ -9,21 +9,21 @@ use Rattle.surface_syntax.specs.declared.type_forms.TypeHead.TheVariants.{Vect a
 use Rattle.surface_syntax.specs.declared.words.TypeWord.{TypeWord}
 use Rattle.surface_syntax.specs.declared.words.TypeWord.TheVariants.{Tuple, Ref, Vect, Rec}
 use Rattle.surface_syntax.specs.declared.derived.Range.{Range as RustRange}
-use Rattle.surface_syntax.specs.declared.exprs.Expr.{Expr as RustExpr}
-use Rattle.surface_syntax.specs.declared.exprs.Binding.{Binding as RustBinding, out-Binding}
-use Rattle.surface_syntax.specs.declared.exprs.Member.{Member as RustMember, out-Member}
-use Rattle.surface_syntax.specs.declared.names.Ident.{Ident}
+use Rattle.surface_trees.specs.declared.exprs.Expr.{Expr as RustExpr}
+use Rattle.surface_trees.specs.declared.exprs.Binding.{Binding as RustBinding, out-Binding}
+use Rattle.surface_trees.specs.declared.exprs.Member.{Member as RustMember, out-Member}
+use Rattle.surface_trees.specs.declared.names.Ident.{Ident}
 use Rattle.surface_syntax.specs.declared.words.Word.TheVariants.{Colon}
 use Rattle.surface_syntax.specs.Marked.{Sexpr, Sexprs, number, word, name, end, ◌▹◌, place}
-use Rattle.surface_syntax.specs.Trees.{TypeExpr, TypeAt, FunType, TupleType, RefType, VectType, Expr, ExprAt, CallNode}
-use Rattle.surface_syntax.specs.Trees.{LambdaExpr, LambdaAt, Exprs, ExprThen, LetBindings, LetThen, LetrecMembers}
-use Rattle.surface_syntax.specs.Trees.{LetrecThen, Param}
+use Rattle.surface_trees.specs.Trees.{TypeExpr, TypeAt, FunType, TupleType, RefType, VectType, Expr, ExprAt, CallNode}
+use Rattle.surface_trees.specs.Trees.{LambdaExpr, LambdaAt, Exprs, ExprThen, LetBindings, LetThen, LetrecMembers}
+use Rattle.surface_trees.specs.Trees.{LetrecThen, Param}
 use Rattle.surface_syntax.specs.Walk.{Signature, Bound, walk_type, walk_only, walk_types, walk_signature}
 use Rattle.surface_syntax.specs.Expansion.{chain_of}
 use Rattle.surface_syntax.specs.Walking.{Walked, Reads, Refuses, followed_by, test, some, is_arrow, binder, colon}
 use Rattle.surface_syntax.specs.Pass.{Parsing, ParsedRange, ◌>>=◌, give, refuse, plain, parse, parse_each}
 use Rattle.surface_syntax.specs.Pass.{parse_within}
-use Rattle.surface_syntax.specs.Views.{type_of, types_of, written_of, source_of, expr_of, lambda_of}
+use Rattle.surface_trees.specs.Views.{type_of, types_of, written_of, source_of, expr_of, lambda_of}
 
 abbrev pub signature_of : RustSignature → Signature
 signature_of s = record { parameters = types_of s.parameters; result = type_of s.result }

@@ -3,15 +3,15 @@ use Rattle.std.specs.Prelude.{ℕ, zero, suc, pos, true, false, nat_eq, List, []
 use Rattle.grift_base.specs.declared.places.Pos.{Pos}
 use Rattle.grift_base.specs.declared.refusals.RefusalKind.{RefusalKind}
 use Rattle.grift_base.specs.declared.refusals.RefusalKind.TheVariants.{BadForm, TooWide, TooManyForms}
-use Rattle.surface_syntax.specs.declared.names.Ident.TheVariants.{Source}
+use Rattle.surface_trees.specs.declared.names.Ident.TheVariants.{Source}
 use Rattle.surface_syntax.specs.declared.words.Word.TheVariants.{Lambda, Let, Letrec, If, Begin, And, Or, Repeat, Tuple}
 use Rattle.surface_syntax.specs.declared.words.Word.TheVariants.{TupleProj, Define, Colon, Arrow, Operator}
 use Rattle.surface_syntax.specs.Words.{operand_count}
 use Rattle.surface_syntax.specs.Marked.{Sexpr, Sexprs, number, truth_value, word, name, list, end, ◌▹◌, place, how_many}
-use Rattle.surface_syntax.specs.Trees.{TypeExpr, Expr, ExprAt, IntNode, BoolNode, UnitNode, NameNode, LambdaNode}
-use Rattle.surface_syntax.specs.Trees.{CallNode, LetNode, LetrecNode, IfNode, BeginNode, AscribeNode, TupleNode}
-use Rattle.surface_syntax.specs.Trees.{ProjNode, PrimNode, LambdaExpr, LambdaAt, Exprs, NoExprs, ExprThen, LetBindings}
-use Rattle.surface_syntax.specs.Trees.{NoLets, LetThen, LetrecMembers, NoLetrecs, LetrecThen}
+use Rattle.surface_trees.specs.Trees.{TypeExpr, Expr, ExprAt, IntNode, BoolNode, UnitNode, NameNode, LambdaNode}
+use Rattle.surface_trees.specs.Trees.{CallNode, LetNode, LetrecNode, IfNode, BeginNode, AscribeNode, TupleNode}
+use Rattle.surface_trees.specs.Trees.{ProjNode, PrimNode, LambdaExpr, LambdaAt, Exprs, NoExprs, ExprThen, LetBindings}
+use Rattle.surface_trees.specs.Trees.{NoLets, LetThen, LetrecMembers, NoLetrecs, LetrecThen}
 use Rattle.surface_syntax.specs.Walking.{Walked, Reads, Refuses, test, some, colon, binder}
 use Rattle.surface_syntax.specs.Walk.{Bound, walk_type, walk_param_list}
 use Rattle.surface_syntax.specs.TopWalk.{has_body, run_for}

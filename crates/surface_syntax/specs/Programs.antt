@@ -3,7 +3,7 @@ use Rattle.std.specs.Prelude.{◌≡◌, List}
 use Rattle.grift_base.specs.declared.refusals.FrontFault.{FrontFault}
 use Rattle.grift_base.specs.declared.refusals.FrontFault.TheVariants.{Refused, OutOfMemory}
 use Rattle.surface_syntax.specs.Marked.{Sexprs}
-use Rattle.surface_syntax.specs.Trees.{Expr}
+use Rattle.surface_trees.specs.Trees.{Expr}
 use Rattle.surface_syntax.specs.Written.{Top}
 use Rattle.surface_syntax.specs.Expansion.{expand_program}
 use Rattle.surface_syntax.specs.Walking.{Refuses}

@@ -12,7 +12,7 @@ use Rattle.surface_syntax.specs.Walking.{is_define_at, binder}
 use Rattle.surface_syntax.specs.TopWalk.{run_for}
 use Rattle.surface_syntax.specs.Expansion.{Part, ExprPart, ValuePart, FunctionPart, Rest, Alone, Run}
 use Rattle.surface_syntax.specs.Pass.{Parsing, ◌>>=◌, refuse, plain, parse_bound, parse_define}
-use Rattle.surface_syntax.specs.Views.{written_of, expr_of, lambda_of, letrecs_of}
+use Rattle.surface_trees.specs.Views.{written_of, expr_of, lambda_of, letrecs_of}
 use Rattle.surface_syntax.specs.Parts.{typed_name}
 
 abbrev pub part_of : RustPart → Part

@@ -3,7 +3,7 @@ use Rattle.std.specs.Prelude.{ℕ, ◌≡◌, ◌≤◌, Bool, true, false, List
 use Rattle.grift_base.specs.declared.places.Pos.{Pos}
 use Rattle.grift_base.specs.Tables.{HasNoRepeats}
 use Rattle.surface_syntax.specs.declared.words.Word.TheVariants.{Lambda, Define, Colon}
-use Rattle.surface_syntax.specs.Trees.{TypeExpr}
+use Rattle.surface_trees.specs.Trees.{TypeExpr}
 use Rattle.surface_syntax.specs.Marked.{Sexpr, Sexprs, word, list, end, ◌▹◌, place, how_many}
 use Rattle.surface_syntax.specs.Written.{Form, LambdaWritten, Top, ExprTop, ValueTop, FunctionTop}
 use Rattle.surface_syntax.specs.Table.{IsName, IsType, IsForm, IsLambda}

@@ -3,15 +3,15 @@ use Rattle.std.specs.Prelude.{ℕ, zero, suc, pos, nat_eq, List, [], ◌∷◌, 
 use Rattle.grift_base.specs.declared.places.Pos.{Pos}
 use Rattle.grift_base.specs.declared.refusals.RefusalKind.TheVariants.{BadForm, TooWide}
 use Rattle.grift_base.specs.Types.{IntRow, BoolRow, UnitRow, DynRow}
-use Rattle.surface_syntax.specs.declared.names.Ident.TheVariants.{Source}
+use Rattle.surface_trees.specs.declared.names.Ident.TheVariants.{Source}
 use Rattle.surface_syntax.specs.declared.words.Word.TheVariants.{Lambda, Let, Letrec, If, Begin, And, Or, Repeat, Tuple}
 use Rattle.surface_syntax.specs.declared.words.Word.TheVariants.{TupleProj, Colon, Arrow, Operator}
 use Rattle.surface_syntax.specs.declared.words.TypeWord.TheVariants.{Int, Bool as BoolWord, Unit as UnitWord, Dyn}
 use Rattle.surface_syntax.specs.declared.words.TypeWord.TheVariants.{Tuple as TupleWord, Ref, Vect, Rec}
 use Rattle.surface_syntax.specs.Words.{operand_count}
 use Rattle.surface_syntax.specs.Marked.{Sexpr, Sexprs, number, truth_value, word, name, list, end, ◌▹◌, place, how_many}
-use Rattle.surface_syntax.specs.Trees.{TypeExpr, TypeAt, BaseType, FunType, TupleType, RefType, VectType, TypeExprs}
-use Rattle.surface_syntax.specs.Trees.{NoTypes, TypeThen, Param}
+use Rattle.surface_trees.specs.Trees.{TypeExpr, TypeAt, BaseType, FunType, TupleType, RefType, VectType, TypeExprs}
+use Rattle.surface_trees.specs.Trees.{NoTypes, TypeThen, Param}
 use Rattle.surface_syntax.specs.Written.{Form, FormAt, IntForm, BoolForm, UnitForm, NameForm, LambdaForm, CallForm}
 use Rattle.surface_syntax.specs.Written.{LetForm, LetrecForm, IfForm, BeginForm, AscribeForm, AndForm, OrForm}
 use Rattle.surface_syntax.specs.Written.{RepeatForm, RepeatIntoForm, TupleForm, ProjForm, PrimForm, LambdaWritten}

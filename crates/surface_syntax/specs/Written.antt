@@ -2,7 +2,7 @@
 use Rattle.std.specs.Prelude.{ℕ, ℤ, Bool, List, Option}
 use Rattle.grift_base.specs.declared.places.Pos.{Pos}
 use Rattle.grift_base.specs.declared.operators.PrimOp.{PrimOp}
-use Rattle.surface_syntax.specs.Trees.{TypeExpr, Param}
+use Rattle.surface_trees.specs.Trees.{TypeExpr, Param}
 
 mutual
   pub data Form : Type 0 where

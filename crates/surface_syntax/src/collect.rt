@@ -1,14 +1,14 @@
 // Lists that are gathered in vectors, since these grow at their ends.
 
 ghost use Rattle.std.specs.Prelude.{◌≡◌, ◌++◌, ◌∷◌, [], IfOk};
-ghost use Rattle.surface_syntax.specs.Trees.{NoExprs, NoLets, NoLetrecs};
-ghost use Rattle.surface_syntax.specs.Views.{exprs_of, lets_of, letrecs_of};
+ghost use Rattle.surface_trees.specs.Trees.{NoExprs, NoLets, NoLetrecs};
+ghost use Rattle.surface_trees.specs.Views.{exprs_of, lets_of, letrecs_of};
 ghost use Rattle.surface_syntax.specs.Parts.{exprs_before, lets_before, letrecs_before};
 
 use crate::derived::{bound_first, cons, member_first};
-use crate::exprs::{Binding, Bindings, Expr, ExprList, Member, Members};
 use grift_base::lists::OutOfMemory;
 use std::alloc::Global;
+use surface_trees::exprs::{Binding, Bindings, Expr, ExprList, Member, Members};
 
 /// Adds one at the end.
 pub fn push<T: Drop>(gathered: &mut Vec<T>, last: T) -> Result<(), OutOfMemory>

@@ -2,25 +2,27 @@
 
 ghost use Rattle.std.specs.Prelude.{◌≡◌, ◌∷◌, [], ℕ, List, IfOk, Some, None};
 ghost use Rattle.type_graph.specs.Rows.{row_of};
-ghost use Rattle.surface_syntax.specs.declared.names.Ident.TheVariants.{Source, Fresh};
-ghost use Rattle.surface_syntax.specs.Trees.{TypeAt, BaseType, ExprAt, PrimNode, IfNode, BeginNode, CallNode};
-ghost use Rattle.surface_syntax.specs.Trees.{LetrecNode, ExprThen, LetThen, NoLets, NoLetrecs, LetrecThen};
+ghost use Rattle.surface_trees.specs.declared.names.Ident.TheVariants.{Source, Fresh};
+ghost use Rattle.surface_trees.specs.Trees.{TypeAt, BaseType, ExprAt, PrimNode, IfNode, BeginNode, CallNode};
+ghost use Rattle.surface_trees.specs.Trees.{LetrecNode, ExprThen, LetThen, NoLets, NoLetrecs, LetrecThen};
 ghost use Rattle.surface_syntax.specs.Expansion.{linked, one_expr, two_exprs, name_at, int_at, typed_param, goes_on};
-ghost use Rattle.surface_syntax.specs.Expansion.{next_count, loop_of, counting, gathering, repeat_of, repeat_into_of};
-ghost use Rattle.surface_syntax.specs.Expansion.{type_or_dyn};
-ghost use Rattle.surface_syntax.specs.Views.{type_of, written_of, param_of, params_of, expr_of, exprs_of, lets_of};
-ghost use Rattle.surface_syntax.specs.Views.{source_of, lambda_of, letrecs_of};
+ghost use Rattle.surface_syntax.specs.Expansion.{chain_of, next_count, loop_of, counting, gathering, repeat_of};
+ghost use Rattle.surface_syntax.specs.Expansion.{repeat_into_of, type_or_dyn};
+ghost use Rattle.surface_trees.specs.Views.{type_of, written_of, param_of, params_of, expr_of, exprs_of, lets_of};
+ghost use Rattle.surface_trees.specs.Views.{source_of, lambda_of, letrecs_of};
 ghost use Rattle.surface_syntax.specs.Parts.{name_of_binding, type_of_binding, value_of_binding};
 ghost use Rattle.surface_syntax.specs.Parts.{name_of_member, type_of_member, fun_of_member};
 
-use crate::exprs::{Binding, Bindings, Expr, ExprList, ExprNode, LambdaExpr, Member, Members};
-use crate::lists::{beside, both, both_boxed, boxed};
-use crate::names::Ident;
-use crate::types::{Param, Params, TypeExpr, TypeNode};
 use grift_base::lists::{Name, OutOfMemory};
+use grift_base::made::{beside, both, both_boxed, boxed};
 use grift_base::operators::PrimOp;
 use grift_base::places::Pos;
 use std::alloc::Global;
+use surface_trees::exprs::{
+    Binding, Bindings, Expr, ExprList, ExprNode, LambdaExpr, Member, Members,
+};
+use surface_trees::names::Ident;
+use surface_trees::types::{Param, Params, TypeExpr, TypeNode};
 use type_graph::rows::Row;
 
 /// The numbers of a loop's fresh names: its first count, its bound and its function.
@@ -166,6 +168,29 @@ fn next_count(alloc: Global, pos: Pos, counter: &Name) -> Result<Expr, OutOfMemo
         node: ExprNode::Int(1),
     };
     operation(alloc, pos, PrimOp::Add, count, step)
+}
+
+// These operands of an `and`, where all are to hold, or of an `or`. A recursion along the list: there are eight at
+// most.
+pub(crate) fn chain(
+    alloc: Global,
+    all: bool,
+    pos: Pos,
+    operands: ExprList,
+) -> Result<Expr, OutOfMemory>
+    ensures { IfOk result (λ e. expr_of e ≡ chain_of all pos (exprs_of operands)) }
+{
+    let Some((first, rest)) = operands.split() else {
+        return Ok(Expr {
+            pos,
+            node: ExprNode::Bool(all),
+        });
+    };
+    if let ExprList::Nil = &rest {
+        return Ok(first);
+    }
+    let others = chain(alloc, all, pos, rest)?;
+    linked(alloc, all, pos, first, others)
 }
 
 /// A link of an `and`, where all operands are to hold, or of an `or`.

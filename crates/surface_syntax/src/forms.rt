@@ -3,13 +3,13 @@
 
 ghost use Rattle.std.specs.Prelude.{◌≡◌, ◌++◌, ◌∷◌, [], IfOk};
 ghost use Rattle.sexpr_reader.specs.View.{datum_of, datums_of};
-ghost use Rattle.surface_syntax.specs.declared.names.Ident.TheVariants.{Source};
+ghost use Rattle.surface_trees.specs.declared.names.Ident.TheVariants.{Source};
 ghost use Rattle.surface_syntax.specs.Marked.{marked, all_marked, marked_symbol};
 ghost use Rattle.surface_syntax.specs.Words.{mark_of};
 ghost use Rattle.surface_syntax.specs.Pass.{parse, parse_list, parse_each, parse_within, parse_binding, parse_lets};
 ghost use Rattle.surface_syntax.specs.Pass.{parse_member, parse_lambda_form, parse_letrecs, parse_range};
-ghost use Rattle.surface_syntax.specs.Views.{params_of, source_of, expr_of, exprs_of, lets_of, letrecs_of};
-ghost use Rattle.surface_syntax.specs.Views.{lambda_of};
+ghost use Rattle.surface_trees.specs.Views.{params_of, source_of, expr_of, exprs_of, lets_of, letrecs_of};
+ghost use Rattle.surface_trees.specs.Views.{lambda_of};
 ghost use Rattle.surface_syntax.specs.Parts.{parse_call, parse_behind, part_number, range_of, name_of_binding};
 ghost use Rattle.surface_syntax.specs.Parts.{bound_of, name_of_member, member_of};
 ghost use Rattle.surface_syntax.specs.Forms.{let_of, letrec_of, if_of, ascribed, ascription_of, projected};
@@ -23,21 +23,24 @@ use crate::elements::{
     behind_lambda, bound_parts, lambda_parts, names_and_body, range_parts, repeat_parts, three_of,
     two_of, typed_body,
 };
-use crate::exprs::{Binding, Bindings, Expr, ExprList, ExprNode, LambdaExpr, Member, Members};
-use crate::lists::{bad_form, boxed, refused, word_at};
-use crate::names::Ident;
+use crate::lists::{bad_form, refused, word_at};
 use crate::operands::{Head, applied_to, called, room};
 use crate::params::{bound_name, only_name, param_list};
 use crate::repeats::{counted_repeat, gathered_repeat};
 use crate::scopes::Scope;
 use crate::type_forms::type_expr;
-use crate::types::Params;
 use crate::words::{Mark, Word, mark_of};
 use grift_base::lists::{Name, OutOfMemory};
+use grift_base::made::boxed;
 use grift_base::places::Pos;
 use grift_base::refusals::{FrontFault, RefusalKind};
 use sexpr_reader::sexps::{Sexp, SexpList, SexpNode};
 use std::alloc::Global;
+use surface_trees::exprs::{
+    Binding, Bindings, Expr, ExprList, ExprNode, LambdaExpr, Member, Members,
+};
+use surface_trees::names::Ident;
+use surface_trees::types::Params;
 
 /// The most arguments of a call.
 const MOST_ARGUMENTS: u64 = 6;

@@ -5,7 +5,7 @@ ghost use Rattle.std.specs.Prelude.{◌≡◌, ◌≤◌, ◌+◌, ◌*◌, IfOk
 ghost use Rattle.sexpr_reader.specs.Datum.{depth_of};
 ghost use Rattle.sexpr_reader.specs.View.{datums_of};
 ghost use Rattle.surface_syntax.specs.Marked.{all_marked, how_many};
-ghost use Rattle.surface_syntax.specs.Views.{expr_of};
+ghost use Rattle.surface_trees.specs.Views.{expr_of};
 ghost use Rattle.surface_syntax.specs.Depth.{depth};
 ghost use Rattle.surface_syntax.specs.Freshness.{BindsFreshOnce};
 ghost use Rattle.surface_syntax.specs.Programs.{AreExpr, IsFault};
@@ -13,11 +13,9 @@ ghost use Rattle.surface_syntax.specs.Programs.{AreExpr, IsFault};
 mod collect;
 mod derived;
 mod elements;
-pub mod exprs;
 mod forms;
 pub mod laws;
 mod lists;
-pub mod names;
 mod operands;
 mod params;
 mod programs;
@@ -25,15 +23,14 @@ mod repeats;
 mod scopes;
 mod tops;
 mod type_forms;
-pub mod types;
 pub mod words;
 
-use crate::exprs::Program;
 use crate::programs::whole;
 use crate::tops::parts;
 use grift_base::refusals::FrontFault;
 use sexpr_reader::sexps::SexpList;
 use std::alloc::Global;
+use surface_trees::exprs::Program;
 
 /// The program that these s-expressions are, or the first refusal on the way through them from left to right.
 pub fn parse_program(alloc: Global, forms: &SexpList) -> Result<Program, FrontFault>

@@ -1,7 +1,7 @@
 // Refusals, and elements of lists.
 #![tactic(auto, using(crate::proofs::Steps::list_steps), unfolding(crate::specs::Walking::followed_by))]
 
-ghost use Rattle.std.specs.Prelude.{◌≡◌, ◌==◌, ◌++◌, ◌∷◌, [], IfOk, Ok};
+ghost use Rattle.std.specs.Prelude.{◌≡◌, ◌==◌, ◌++◌, ◌∷◌, [], IfOk};
 ghost use Rattle.sexpr_reader.specs.View.{datum_of, datums_of};
 ghost use Rattle.surface_syntax.specs.Marked.{marked, all_marked, reserved_at, how_many};
 ghost use Rattle.surface_syntax.specs.Walking.{binder, colon, some, is_colon, is_arrow_at, is_lambda_at};
@@ -10,7 +10,7 @@ ghost use Rattle.surface_syntax.specs.Claims.{Answers};
 
 use crate::scopes::Scope;
 use crate::words::{Mark, Word, mark_of};
-use grift_base::lists::{Name, OutOfMemory};
+use grift_base::lists::Name;
 use grift_base::places::Pos;
 use grift_base::refusals::{FrontFault, Refusal, RefusalKind};
 use sexpr_reader::sexps::{Sexp, SexpList, SexpNode};
@@ -154,74 +154,4 @@ pub fn binder(alloc: Global, scope: &mut Scope, sexp: &Sexp) -> Result<Name, Fro
         return refused(RefusalKind::RepeatedName, sexp.pos);
     }
     Ok(Name::from_slice(alloc, name.as_slice())?)
-}
-
-/// A value on the heap, beside one that is kept.
-pub fn boxed_beside<T: Drop, K: Drop>(
-    alloc: Global,
-    value: T,
-    kept: K,
-) -> Result<(Box<T>, K), OutOfMemory>
-    ensures value { IfOk result (λ both. both.0.value ≡ value) }
-    ensures kept { IfOk result (λ both. both.1 ≡ kept) }
-{
-    let value = boxed(alloc, value)?;
-    Ok((value, kept))
-}
-
-/// What was made, on the heap.
-pub fn boxed_made<T: Drop>(
-    alloc: Global,
-    made: Result<T, OutOfMemory>,
-) -> Result<Box<T>, OutOfMemory>
-    ensures { IfOk result (λ b. made ≡ Ok b.value) }
-{
-    Ok(boxed(alloc, made?)?)
-}
-
-/// Two values on the heap.
-pub fn both_boxed<A: Drop, B: Drop>(
-    alloc: Global,
-    first: A,
-    second: B,
-) -> Result<(Box<A>, Box<B>), OutOfMemory>
-    ensures first { IfOk result (λ two. two.0.value ≡ first) }
-    ensures second { IfOk result (λ two. two.1.value ≡ second) }
-{
-    let (first, second) = boxed_beside(alloc, first, second)?;
-    let second = boxed(alloc, second)?;
-    Ok((first, second))
-}
-
-/// Two things that were made. So a function that makes several has one exit, at which it holds none of them.
-pub fn both<A: Drop, B: Drop>(
-    first: Result<A, OutOfMemory>,
-    second: Result<B, OutOfMemory>,
-) -> Result<(A, B), OutOfMemory>
-    ensures first { IfOk result (λ two. first ≡ Ok two.0) }
-    ensures second { IfOk result (λ two. second ≡ Ok two.1) }
-{
-    let first = first?;
-    Ok((first, second?))
-}
-
-/// A value beside what was made; it is dropped where nothing was made.
-pub fn beside<T: Drop, R: Drop>(
-    value: T,
-    made: Result<R, OutOfMemory>,
-) -> Result<(T, R), OutOfMemory>
-    ensures value { IfOk result (λ both. both.0 ≡ value) }
-    ensures made { IfOk result (λ both. made ≡ Ok both.1) }
-{
-    match made {
-        Ok(made) => Ok((value, made)),
-        Err(fault) => Err(fault),
-    }
-}
-
-/// A value on the heap.
-pub fn boxed<T: Drop>(alloc: Global, value: T) -> Result<Box<T>, OutOfMemory>
-    ensures { IfOk result (λ b. b.value ≡ value) }
-{
-    Ok(Box::new(alloc, value)?)
 }

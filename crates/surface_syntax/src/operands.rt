@@ -4,20 +4,22 @@
 ghost use Rattle.std.specs.Prelude.{◌≡◌, IfOk};
 ghost use Rattle.sexpr_reader.specs.View.{datums_of};
 ghost use Rattle.surface_syntax.specs.Marked.{all_marked};
-ghost use Rattle.surface_syntax.specs.Trees.{ExprAt, CallNode};
+ghost use Rattle.surface_trees.specs.Trees.{ExprAt, CallNode};
 ghost use Rattle.surface_syntax.specs.Forms.{room_of, applied_to};
-ghost use Rattle.surface_syntax.specs.Views.{expr_of, exprs_of};
+ghost use Rattle.surface_trees.specs.Views.{expr_of, exprs_of};
 ghost use Rattle.surface_syntax.specs.Claims.{Answers};
 
-use crate::exprs::{Expr, ExprList, ExprNode};
-use crate::lists::{bad_form, boxed, has_length, some};
+use crate::derived::chain;
+use crate::lists::{bad_form, has_length, some};
 use crate::words::operand_count;
 use grift_base::lists::OutOfMemory;
+use grift_base::made::boxed;
 use grift_base::operators::PrimOp;
 use grift_base::places::Pos;
 use grift_base::refusals::FrontFault;
 use sexpr_reader::sexps::SexpList;
 use std::alloc::Global;
+use surface_trees::exprs::{Expr, ExprList, ExprNode};
 
 /// The most parts of a tuple, and the most operands of `and` and `or`.
 const MOST_PARTS: u64 = 8;
@@ -70,8 +72,8 @@ pub fn applied_to(
     ensures { IfOk result (λ e. expr_of e ≡ applied_to head pos (exprs_of operands)) }
 {
     let node = match head {
-        Head::And => return operands.chain(alloc, true, pos),
-        Head::Or => return operands.chain(alloc, false, pos),
+        Head::And => return chain(alloc, true, pos, operands),
+        Head::Or => return chain(alloc, false, pos, operands),
         Head::Begin => ExprNode::Begin(operands),
         Head::Tuple => ExprNode::Tuple(operands),
         Head::Operator(operator) => ExprNode::Prim(operator, operands),

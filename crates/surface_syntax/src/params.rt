@@ -8,20 +8,20 @@ ghost use Rattle.surface_syntax.specs.Walking.{binder};
 ghost use Rattle.surface_syntax.specs.Walk.{plain_param, walk_param, walk_params, walk_param_list};
 ghost use Rattle.std.specs.Option.{option_map};
 ghost use Rattle.surface_syntax.specs.Forms.{written_type, bound_name};
-ghost use Rattle.surface_syntax.specs.Views.{type_of, written_of, source_of, named_param_of, params_of};
+ghost use Rattle.surface_trees.specs.Views.{type_of, written_of, source_of, named_param_of, params_of};
 ghost use Rattle.surface_syntax.specs.Parts.{typed_name};
 ghost use Rattle.surface_syntax.specs.Claims.{Answers};
 
 use crate::lists::{bad_form, binder, colon, refused};
-use crate::names::Ident;
 use crate::scopes::Scope;
 use crate::type_forms::type_expr;
-use crate::types::{Param, Params, TypeExpr};
 use grift_base::lists::Name;
 use grift_base::places::Pos;
 use grift_base::refusals::{FrontFault, RefusalKind};
 use sexpr_reader::sexps::{Sexp, SexpList, SexpNode};
 use std::alloc::Global;
+use surface_trees::names::Ident;
+use surface_trees::types::{Param, Params, TypeExpr};
 
 /// The most parameters of a function.
 const MOST_PARAMETERS: u64 = 6;

@@ -1,20 +1,20 @@
 // Programs: their forms put together.
 
 ghost use Rattle.std.specs.Prelude.{◌≡◌, map, IfOk};
-ghost use Rattle.surface_syntax.specs.Trees.{ExprAt, UnitNode};
+ghost use Rattle.surface_trees.specs.Trees.{ExprAt, UnitNode};
 ghost use Rattle.surface_syntax.specs.Expansion.{Alone, closed, with_function, before, ending, whole};
-ghost use Rattle.surface_syntax.specs.Views.{expr_of};
+ghost use Rattle.surface_trees.specs.Views.{expr_of};
 ghost use Rattle.surface_syntax.specs.Parts.{name_of_member, type_of_member, fun_of_member};
 ghost use Rattle.surface_syntax.specs.TopParts.{part_of, rest_of};
 
 use crate::derived::{bound_first, member_first, one, two};
-use crate::exprs::{Binding, Bindings, Expr, ExprNode, Member, Members};
-use crate::lists::{beside, both};
-use crate::names::Ident;
 use crate::tops::Part;
 use grift_base::lists::OutOfMemory;
+use grift_base::made::{beside, both};
 use grift_base::places::Pos;
 use std::alloc::Global;
+use surface_trees::exprs::{Binding, Bindings, Expr, ExprNode, Member, Members};
+use surface_trees::names::Ident;
 
 /// The rest of a program.
 #[derive(Drop)]

@@ -7,23 +7,23 @@ ghost use Rattle.surface_syntax.specs.Marked.{marked, all_marked, list as list_a
 ghost use Rattle.surface_syntax.specs.TopWalk.{run_for};
 ghost use Rattle.surface_syntax.specs.TopTable.{is_lambda_form};
 ghost use Rattle.surface_syntax.specs.Pass.{parse_bound, parse_define, parse_top, parse_tops, run_behind};
-ghost use Rattle.surface_syntax.specs.Views.{written_of};
+ghost use Rattle.surface_trees.specs.Views.{written_of};
 ghost use Rattle.surface_syntax.specs.TopParts.{part_of, parse_named, is_definition, parse_definition, Grows};
 ghost use Rattle.surface_syntax.specs.Claims.{Parses};
 
 use crate::collect::push;
 use crate::elements::has_body;
-use crate::exprs::{Expr, LambdaExpr};
 use crate::forms::{expr, function, lambda_with};
 use crate::lists::{bad_form, binder, is_define_at, is_lambda_at, refused};
 use crate::params::{params, typed_name};
 use crate::scopes::Scope;
-use crate::types::TypeExpr;
 use grift_base::lists::Name;
 use grift_base::places::Pos;
 use grift_base::refusals::{FrontFault, RefusalKind};
 use sexpr_reader::sexps::{Sexp, SexpList, SexpNode};
 use std::alloc::Global;
+use surface_trees::exprs::{Expr, LambdaExpr};
+use surface_trees::types::TypeExpr;
 
 /// The most forms of a program.
 const MOST_FORMS: u32 = 500;

@@ -7,20 +7,21 @@ ghost use Rattle.surface_syntax.specs.Marked.{marked, all_marked, marked_symbol,
 ghost use Rattle.surface_syntax.specs.Words.{mark_of};
 ghost use Rattle.surface_syntax.specs.Walk.{walk_type, walk_only, walk_types, walk_signature};
 ghost use Rattle.type_graph.specs.Rows.{row_of};
-ghost use Rattle.surface_syntax.specs.Trees.{TypeAt, BaseType};
-ghost use Rattle.surface_syntax.specs.Views.{type_of, type_node_of, types_of};
+ghost use Rattle.surface_trees.specs.Trees.{TypeAt, BaseType};
+ghost use Rattle.surface_trees.specs.Views.{type_of, type_node_of, types_of};
 ghost use Rattle.surface_syntax.specs.declared.type_forms.TypeHead.TheVariants.{Other};
 ghost use Rattle.surface_syntax.specs.Parts.{signature_of, head_of_word, type_head, headed_type};
 ghost use Rattle.surface_syntax.specs.Claims.{Answers};
 
-use crate::lists::{bad_form, boxed, is_arrow, is_arrow_at, refused};
-use crate::types::{TypeExpr, TypeExprs, TypeNode};
+use crate::lists::{bad_form, is_arrow, is_arrow_at, refused};
 use crate::words::{Mark, TypeWord, mark_of};
 use grift_base::lists::Name;
+use grift_base::made::boxed;
 use grift_base::places::Pos;
 use grift_base::refusals::{FrontFault, RefusalKind};
 use sexpr_reader::sexps::{Sexp, SexpList, SexpNode};
 use std::alloc::Global;
+use surface_trees::types::{TypeExpr, TypeExprs, TypeNode};
 use type_graph::rows::Row;
 
 /// The most parts of a tuple's type.

@@ -1,7 +1,7 @@
 use Rattle.std.proofs.Common.{refl}
 use Rattle.std.proofs.lemmas.Result.{err_from_is_err_and}
 use Rattle.sexpr_reader.specs.View.{datums_of}
-use Rattle.surface_syntax.specs.Views.{expr_of}
+use Rattle.surface_trees.specs.Views.{expr_of}
 use Rattle.front_end.proofs.Answered.{read_as, elaborates, fault_given}
 use Rattle.front_end.proofs.Sources.{read_programs_are_sources}
 use Rattle.front_end.proofs.elaborate_text.Goals as goal

@@ -1,4 +1,4 @@
-use Rattle.surface_syntax.specs.Views.{expr_of}
+use Rattle.surface_trees.specs.Views.{expr_of}
 use Rattle.front_end.proofs.Public.{read_programs_are_sources}
 use Rattle.audit_tests.proofs.sources.audited.Goals as goal
 

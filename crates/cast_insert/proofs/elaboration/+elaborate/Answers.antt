@@ -1,9 +1,9 @@
 use Rattle.std.proofs.Common.{rules, arith, ◌≡◌, ◌∷◌, sym, ap, ◌∙◌, [], ◌++◌, subst}
 use Rattle.core_calc.specs.Terms.{NoTerms, term_list, binding_list}
 use Rattle.core_calc.specs.Views.{term_of, terms_of, bindings_of}
-use Rattle.surface_syntax.specs.Trees.{NoExprs, ExprThen, IfNode, LetThen, LetrecThen}
-use Rattle.surface_syntax.specs.Views.{expr_of, exprs_of, lambda_of, lets_of, letrecs_of, written_of}
-use Rattle.surface_syntax.specs.declared.exprs.ExprList.{the_lemmas as list_lemmas}
+use Rattle.surface_trees.specs.Trees.{NoExprs, ExprThen, IfNode, LetThen, LetrecThen}
+use Rattle.surface_trees.specs.Views.{expr_of, exprs_of, lambda_of, lets_of, letrecs_of, written_of}
+use Rattle.surface_trees.specs.declared.exprs.ExprList.{the_lemmas as list_lemmas}
 use Rattle.cast_insert.specs.Making.{Makes, Made, Typed, then_make}
 use Rattle.std.proofs.lemmas.Grind.{common_steps}
 use Rattle.cast_insert.specs.Elaboration.{elaborate, elaborate_sequence, elaborate_node}
@@ -17,11 +17,11 @@ use Rattle.cast_insert.specs.Programs.{IsSourceBody, AreSourceBindings, AreSourc
 use Rattle.cast_insert.proofs.Room.{body_first, body_rest, grows_last, grows_on}
 use Rattle.cast_insert.proofs.Loops.{if_first, if_second, if_joined, loop_steps, failed_first, made_first, made_then}
 use Rattle.std.proofs.lemmas.List.{map-append}
-use Rattle.surface_syntax.specs.declared.names.Ident.{Ident}
-use Rattle.surface_syntax.specs.declared.exprs.Binding.{out-Binding}
-use Rattle.surface_syntax.specs.declared.exprs.Bindings.{the_lemmas as binding_lemmas}
-use Rattle.surface_syntax.specs.declared.exprs.Member.{out-Member}
-use Rattle.surface_syntax.specs.declared.exprs.Members.{the_lemmas as member_lemmas}
+use Rattle.surface_trees.specs.declared.names.Ident.{Ident}
+use Rattle.surface_trees.specs.declared.exprs.Binding.{out-Binding}
+use Rattle.surface_trees.specs.declared.exprs.Bindings.{the_lemmas as binding_lemmas}
+use Rattle.surface_trees.specs.declared.exprs.Member.{out-Member}
+use Rattle.surface_trees.specs.declared.exprs.Members.{the_lemmas as member_lemmas}
 use Rattle.cast_insert.specs.declared.names.Named.{Named}
 use Rattle.cast_insert.specs.Sources.{place_of}
 use Rattle.cast_insert.specs.Environments.{Meaning, plain}

@@ -1,5 +1,5 @@
 use Rattle.std.proofs.Common.{◌≡◌}
-use Rattle.surface_syntax.specs.Views.{exprs_of}
+use Rattle.surface_trees.specs.Views.{exprs_of}
 use Rattle.cast_insert.specs.Sources.{last_place}
 use Rattle.cast_insert.proofs.elaboration.last_pos.Given as goal
 

@@ -1,8 +1,8 @@
-use Rattle.surface_syntax.specs.Views.{letrecs_of}
+use Rattle.surface_trees.specs.Views.{letrecs_of}
 use Rattle.cast_insert.specs.Heads.{name_in, written_in, lambda_in}
 use Rattle.cast_insert.specs.Views.{work_of}
 use Rattle.cast_insert.proofs.Loops.{heads_more, head_named}
-use Rattle.surface_syntax.specs.Trees.{LetrecThen}
+use Rattle.surface_trees.specs.Trees.{LetrecThen}
 use Rattle.cast_insert.specs.Programs.{AreSourceMembers}
 use Rattle.cast_insert.proofs.Room.{grows_on}
 use Rattle.cast_insert.proofs.heads.heads.Goals as goal

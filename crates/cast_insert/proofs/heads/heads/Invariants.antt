@@ -1,5 +1,5 @@
 use Rattle.std.proofs.Common.{◌≡◌}
-use Rattle.surface_syntax.specs.Views.{letrecs_of}
+use Rattle.surface_trees.specs.Views.{letrecs_of}
 use Rattle.cast_insert.specs.Environments.{heads_of, names_of_heads, with_names}
 use Rattle.cast_insert.specs.Heads.{heads_seen}
 use Rattle.cast_insert.specs.Programs.{AreSourceMembers}

@@ -1,5 +1,5 @@
 use Rattle.core_calc.specs.Views.{term_of}
-use Rattle.surface_syntax.specs.Views.{expr_of}
+use Rattle.surface_trees.specs.Views.{expr_of}
 use Rattle.cast_insert.specs.Views.{work_of}
 use Rattle.cast_insert.proofs.Elaborated.{program_answered}
 use Rattle.cast_insert.proofs.insertion.insert.Goals as goal

@@ -1,6 +1,6 @@
 use Rattle.std.proofs.Common.{ℕ, suc, max, [], ◌∷◌, ◌++◌}
 use Rattle.grift_base.specs.declared.places.TypeId.{TypeId}
-use Rattle.surface_syntax.specs.Views.{type_of, types_of}
+use Rattle.surface_trees.specs.Views.{type_of, types_of}
 use Rattle.type_graph.specs.Rows.{places_of}
 use Rattle.cast_insert.specs.Programs.{depth_of, depth_of_all}
 use Rattle.cast_insert.specs.Room.{IsWithin, StandsOn}

@@ -1,6 +1,6 @@
 use Rattle.std.proofs.Common.{◌≡◌, ◌≤◌, ◌+◌, length}
-use Rattle.surface_syntax.specs.declared.types.TypeExprs.{size-TypeExprs}
-use Rattle.surface_syntax.specs.Views.{types_of}
+use Rattle.surface_trees.specs.declared.types.TypeExprs.{size-TypeExprs}
+use Rattle.surface_trees.specs.Views.{types_of}
 use Rattle.type_graph.specs.Rows.{places_of}
 use Rattle.cast_insert.specs.Programs.{HaveTypeWidths, depth_of_all, how_many_types}
 use Rattle.cast_insert.specs.Room.{AreWithin, Grows}

@@ -1,7 +1,7 @@
 use Rattle.std.proofs.Common.{◌≤◌}
-use Rattle.surface_syntax.specs.declared.exprs.ExprList.{size-ExprList}
-use Rattle.surface_syntax.specs.declared.exprs.Bindings.{size-Bindings}
-use Rattle.surface_syntax.specs.declared.exprs.Members.{size-Members}
+use Rattle.surface_trees.specs.declared.exprs.ExprList.{size-ExprList}
+use Rattle.surface_trees.specs.declared.exprs.Bindings.{size-Bindings}
+use Rattle.surface_trees.specs.declared.exprs.Members.{size-Members}
 use Rattle.front_tests.proofs.forms.+show.Given as goal
 
 abbrev pub invariant-show_all-loop-list : goal.invariant-show_all-loop-list

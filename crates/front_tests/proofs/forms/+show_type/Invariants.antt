@@ -1,5 +1,5 @@
 use Rattle.std.proofs.Common.{◌≤◌}
-use Rattle.surface_syntax.specs.declared.types.TypeExprs.{size-TypeExprs}
+use Rattle.surface_trees.specs.declared.types.TypeExprs.{size-TypeExprs}
 use Rattle.front_tests.proofs.forms.+show_type.Given as goal
 
 abbrev pub invariant-show_types-loop-list : goal.invariant-show_types-loop-list

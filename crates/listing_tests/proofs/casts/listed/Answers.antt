@@ -1,5 +1,5 @@
 use Rattle.core_calc.specs.Views.{term_of}
-use Rattle.surface_syntax.specs.Views.{expr_of}
+use Rattle.surface_trees.specs.Views.{expr_of}
 use Rattle.cast_insert.specs.Views.{entries_of}
 use Rattle.front_end.proofs.Public.{read_programs_are_sources}
 use Rattle.listing.proofs.Public.{elaborated_entries_fit}

@@ -1,6 +1,6 @@
 use Rattle.std.proofs.Common.{◌≡◌, vec_len}
-use Rattle.surface_syntax.specs.Trees.{NoLets}
-use Rattle.surface_syntax.specs.Views.{lets_of}
+use Rattle.surface_trees.specs.Trees.{NoLets}
+use Rattle.surface_trees.specs.Views.{lets_of}
 use Rattle.surface_syntax.specs.Parts.{lets_before}
 use Rattle.surface_syntax.proofs.collect.binding_list.Given as goal
 

@@ -1,6 +1,6 @@
 use Rattle.std.proofs.Common.{◌≡◌, vec_len}
-use Rattle.surface_syntax.specs.Trees.{NoExprs}
-use Rattle.surface_syntax.specs.Views.{exprs_of}
+use Rattle.surface_trees.specs.Trees.{NoExprs}
+use Rattle.surface_trees.specs.Views.{exprs_of}
 use Rattle.surface_syntax.specs.Parts.{exprs_before}
 use Rattle.surface_syntax.proofs.collect.expr_list.Given as goal
 

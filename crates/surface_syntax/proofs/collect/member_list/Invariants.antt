@@ -1,6 +1,6 @@
 use Rattle.std.proofs.Common.{◌≡◌, vec_len}
-use Rattle.surface_syntax.specs.Trees.{NoLetrecs}
-use Rattle.surface_syntax.specs.Views.{letrecs_of}
+use Rattle.surface_trees.specs.Trees.{NoLetrecs}
+use Rattle.surface_trees.specs.Views.{letrecs_of}
 use Rattle.surface_syntax.specs.Parts.{letrecs_before}
 use Rattle.surface_syntax.proofs.collect.member_list.Given as goal
 

@@ -6,7 +6,7 @@ use Rattle.sexpr_reader.specs.View.{datum_of, datums_of}
 use Rattle.surface_syntax.specs.Marked.{marked, all_marked}
 use Rattle.surface_syntax.specs.Walking.{Reads}
 use Rattle.surface_syntax.specs.Pass.{then_with, paired, parse_list}
-use Rattle.surface_syntax.specs.Views.{expr_of, exprs_of, params_of, lambda_of}
+use Rattle.surface_trees.specs.Views.{expr_of, exprs_of, params_of, lambda_of}
 use Rattle.surface_syntax.specs.Parts.{range_of, bound_of, member_of}
 use Rattle.surface_syntax.specs.Forms.{headed_of, lambda_from}
 use Rattle.surface_syntax.specs.Claims.{Parses}

@@ -1,7 +1,7 @@
 use Rattle.std.proofs.Common.{refl, sym, ◌∙◌, subst, rules}
 use Rattle.sexpr_reader.specs.View.{datums_of}
 use Rattle.surface_syntax.specs.Marked.{all_marked}
-use Rattle.surface_syntax.specs.Views.{params_of, lambda_of}
+use Rattle.surface_trees.specs.Views.{params_of, lambda_of}
 use Rattle.surface_syntax.specs.TopParts.{part_of}
 use Rattle.surface_syntax.specs.Claims.{Parses}
 use Rattle.surface_syntax.proofs.FormRows.{bind_reads, bind_ok, bind_err, plain_reads, plain_err}

@@ -1,10 +1,10 @@
 use Rattle.std.proofs.Common.{ap, sym, ◌∙◌, subst}
 use Rattle.sexpr_reader.specs.View.{datum_of}
 use Rattle.surface_syntax.specs.Marked.{marked}
-use Rattle.surface_syntax.specs.Trees.{TypeAt, TypeExpr}
+use Rattle.surface_trees.specs.Trees.{TypeAt, TypeExpr}
 use Rattle.surface_syntax.specs.Walking.{Walked}
 use Rattle.surface_syntax.specs.Walk.{walk_type}
-use Rattle.surface_syntax.specs.Views.{type_of, type_node_of}
+use Rattle.surface_trees.specs.Views.{type_of, type_node_of}
 use Rattle.surface_syntax.specs.Parts.{type_head}
 use Rattle.surface_syntax.specs.Claims.{Answers}
 use Rattle.surface_syntax.proofs.Steps.{HeadIs, headed_here, only_one}

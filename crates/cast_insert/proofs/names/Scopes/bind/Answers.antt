@@ -1,6 +1,6 @@
 use Rattle.std.proofs.Common.{◌≡◌, ◌≤◌, suc, length, sym, ap, ◌∙◌, subst, arith}
 use Rattle.std.specs.HashMap.{get}
-use Rattle.surface_syntax.specs.contracts.names.IdentPartialEq.TheImpl.{ghosts}
+use Rattle.surface_trees.specs.contracts.names.IdentPartialEq.TheImpl.{ghosts}
 use Rattle.cast_insert.specs.Scoped.{AreFound, kept_place}
 use Rattle.cast_insert.proofs.Scoping.{found_push}
 use Rattle.cast_insert.proofs.names.Scopes.bind.Goals as goal

@@ -3,7 +3,7 @@ use Rattle.std.specs.Prelude.{ℤ, Bool, List, Option}
 use Rattle.grift_base.specs.declared.places.Pos.{Pos}
 use Rattle.grift_base.specs.declared.operators.PrimOp.{PrimOp}
 use Rattle.grift_base.specs.Types.{TypeRow}
-use Rattle.surface_syntax.specs.declared.names.Ident.{Ident}
+use Rattle.surface_trees.specs.declared.names.Ident.{Ident}
 
 mutual
   pub data TypeExpr : Type 0 where

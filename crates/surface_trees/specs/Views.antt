@@ -1,36 +1,36 @@
 -- The crate's types as plain data: what their boxes hold, and not where.
 use Rattle.std.specs.Prelude.{ℕ, List, [], map, Option, Some, None}
 use Rattle.type_graph.specs.Rows.{row_of}
-use Rattle.surface_syntax.specs.declared.names.Ident.{Ident}
-use Rattle.surface_syntax.specs.declared.names.Ident.TheVariants.{Source, Fresh}
-use Rattle.surface_syntax.specs.declared.types.TypeExpr.{TypeExpr as RustType, out-TypeExpr}
-use Rattle.surface_syntax.specs.declared.types.TypeNode.{TypeNode as RustTypeNode}
-use Rattle.surface_syntax.specs.declared.types.TypeNode.TheVariants.{Base, Fun' as FunCase, Tuple as TupleCase}
-use Rattle.surface_syntax.specs.declared.types.TypeNode.TheVariants.{Ref' as RefCase, Vect' as VectCase}
-use Rattle.surface_syntax.specs.declared.types.TypeExprs.{TypeExprs as RustTypes}
-use Rattle.surface_syntax.specs.declared.types.TypeExprs.TheVariants.{Nil as NoRustTypes, Cons' as RustTypeThen}
-use Rattle.surface_syntax.specs.declared.types.Param.{Param as RustParam}
-use Rattle.surface_syntax.specs.declared.exprs.Expr.{Expr as RustExpr, out-Expr}
-use Rattle.surface_syntax.specs.declared.exprs.ExprNode.{ExprNode as RustNode}
-use Rattle.surface_syntax.specs.declared.exprs.ExprNode.TheVariants.{Int as IntCase, Bool as BoolCase, Unit as UnitCase}
-use Rattle.surface_syntax.specs.declared.exprs.ExprNode.TheVariants.{Name as NameCase, Lambda' as LambdaCase}
-use Rattle.surface_syntax.specs.declared.exprs.ExprNode.TheVariants.{Call' as CallCase, Let as LetCase}
-use Rattle.surface_syntax.specs.declared.exprs.ExprNode.TheVariants.{Letrec as LetrecCase, If' as IfCase}
-use Rattle.surface_syntax.specs.declared.exprs.ExprNode.TheVariants.{Begin as BeginCase, Ascribe' as AscribeCase}
-use Rattle.surface_syntax.specs.declared.exprs.ExprNode.TheVariants.{Tuple as TupleNodeCase, Proj' as ProjCase}
-use Rattle.surface_syntax.specs.declared.exprs.ExprNode.TheVariants.{Prim as PrimCase}
-use Rattle.surface_syntax.specs.declared.exprs.LambdaExpr.{LambdaExpr as RustLambda, out-LambdaExpr}
-use Rattle.surface_syntax.specs.declared.exprs.ExprList.{ExprList as RustExprs}
-use Rattle.surface_syntax.specs.declared.exprs.ExprList.TheVariants.{Nil as NoRustExprs, Cons' as RustExprThen}
-use Rattle.surface_syntax.specs.declared.exprs.Bindings.{Bindings as RustBindings}
-use Rattle.surface_syntax.specs.declared.exprs.Bindings.TheVariants.{Nil as NoRustBindings, Cons' as RustBindingThen}
-use Rattle.surface_syntax.specs.declared.exprs.Members.{Members as RustMembers}
-use Rattle.surface_syntax.specs.declared.exprs.Members.TheVariants.{Nil as NoRustMembers, Cons' as RustMemberThen}
-use Rattle.surface_syntax.specs.Trees.{TypeExpr, TypeNode, TypeAt, BaseType, FunType, TupleType, RefType, VectType}
-use Rattle.surface_syntax.specs.Trees.{TypeExprs, NoTypes, TypeThen, Param, Expr, ExprAt, ExprNode, IntNode, BoolNode}
-use Rattle.surface_syntax.specs.Trees.{UnitNode, NameNode, LambdaNode, CallNode, LetNode, LetrecNode, IfNode, BeginNode}
-use Rattle.surface_syntax.specs.Trees.{AscribeNode, TupleNode, ProjNode, PrimNode, LambdaExpr, LambdaAt, Exprs, NoExprs}
-use Rattle.surface_syntax.specs.Trees.{ExprThen, LetBindings, NoLets, LetThen, LetrecMembers, NoLetrecs, LetrecThen}
+use Rattle.surface_trees.specs.declared.names.Ident.{Ident}
+use Rattle.surface_trees.specs.declared.names.Ident.TheVariants.{Source, Fresh}
+use Rattle.surface_trees.specs.declared.types.TypeExpr.{TypeExpr as RustType, out-TypeExpr}
+use Rattle.surface_trees.specs.declared.types.TypeNode.{TypeNode as RustTypeNode}
+use Rattle.surface_trees.specs.declared.types.TypeNode.TheVariants.{Base, Fun' as FunCase, Tuple as TupleCase}
+use Rattle.surface_trees.specs.declared.types.TypeNode.TheVariants.{Ref' as RefCase, Vect' as VectCase}
+use Rattle.surface_trees.specs.declared.types.TypeExprs.{TypeExprs as RustTypes}
+use Rattle.surface_trees.specs.declared.types.TypeExprs.TheVariants.{Nil as NoRustTypes, Cons' as RustTypeThen}
+use Rattle.surface_trees.specs.declared.types.Param.{Param as RustParam}
+use Rattle.surface_trees.specs.declared.exprs.Expr.{Expr as RustExpr, out-Expr}
+use Rattle.surface_trees.specs.declared.exprs.ExprNode.{ExprNode as RustNode}
+use Rattle.surface_trees.specs.declared.exprs.ExprNode.TheVariants.{Int as IntCase, Bool as BoolCase, Unit as UnitCase}
+use Rattle.surface_trees.specs.declared.exprs.ExprNode.TheVariants.{Name as NameCase, Lambda' as LambdaCase}
+use Rattle.surface_trees.specs.declared.exprs.ExprNode.TheVariants.{Call' as CallCase, Let as LetCase}
+use Rattle.surface_trees.specs.declared.exprs.ExprNode.TheVariants.{Letrec as LetrecCase, If' as IfCase}
+use Rattle.surface_trees.specs.declared.exprs.ExprNode.TheVariants.{Begin as BeginCase, Ascribe' as AscribeCase}
+use Rattle.surface_trees.specs.declared.exprs.ExprNode.TheVariants.{Tuple as TupleNodeCase, Proj' as ProjCase}
+use Rattle.surface_trees.specs.declared.exprs.ExprNode.TheVariants.{Prim as PrimCase}
+use Rattle.surface_trees.specs.declared.exprs.LambdaExpr.{LambdaExpr as RustLambda, out-LambdaExpr}
+use Rattle.surface_trees.specs.declared.exprs.ExprList.{ExprList as RustExprs}
+use Rattle.surface_trees.specs.declared.exprs.ExprList.TheVariants.{Nil as NoRustExprs, Cons' as RustExprThen}
+use Rattle.surface_trees.specs.declared.exprs.Bindings.{Bindings as RustBindings}
+use Rattle.surface_trees.specs.declared.exprs.Bindings.TheVariants.{Nil as NoRustBindings, Cons' as RustBindingThen}
+use Rattle.surface_trees.specs.declared.exprs.Members.{Members as RustMembers}
+use Rattle.surface_trees.specs.declared.exprs.Members.TheVariants.{Nil as NoRustMembers, Cons' as RustMemberThen}
+use Rattle.surface_trees.specs.Trees.{TypeExpr, TypeNode, TypeAt, BaseType, FunType, TupleType, RefType, VectType}
+use Rattle.surface_trees.specs.Trees.{TypeExprs, NoTypes, TypeThen, Param, Expr, ExprAt, ExprNode, IntNode, BoolNode}
+use Rattle.surface_trees.specs.Trees.{UnitNode, NameNode, LambdaNode, CallNode, LetNode, LetrecNode, IfNode, BeginNode}
+use Rattle.surface_trees.specs.Trees.{AscribeNode, TupleNode, ProjNode, PrimNode, LambdaExpr, LambdaAt, Exprs, NoExprs}
+use Rattle.surface_trees.specs.Trees.{ExprThen, LetBindings, NoLets, LetThen, LetrecMembers, NoLetrecs, LetrecThen}
 
 abbrev mutual
   -- what a written type is

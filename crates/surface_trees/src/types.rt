@@ -1,10 +1,10 @@
-// Types as a source writes them.
+// Types as a source writes them, and parameters.
 
 ghost use Rattle.std.specs.Prelude.{◌≡◌, IfOk};
 
-use crate::lists::{both, boxed_made};
 use crate::names::Ident;
 use grift_base::lists::{Items, OutOfMemory};
+use grift_base::made::{both, boxed_made};
 use grift_base::places::Pos;
 use std::alloc::Global;
 use type_graph::rows::{Row, TypeIds};
@@ -91,7 +91,7 @@ fn duplicate_row(alloc: Global, row: &Row) -> Result<Row, OutOfMemory>
 
 impl TypeExpr {
     ghost use Rattle.std.specs.Prelude.{◌≡◌, IfOk};
-    ghost use Rattle.surface_syntax.specs.Views.{type_of};
+    ghost use Rattle.surface_trees.specs.Views.{type_of};
 
     /// The same type again.
     #[cycle(duplicate)]
@@ -108,7 +108,7 @@ impl TypeExpr {
 
 impl TypeNode {
     ghost use Rattle.std.specs.Prelude.{◌≡◌, IfOk};
-    ghost use Rattle.surface_syntax.specs.Views.{type_node_of};
+    ghost use Rattle.surface_trees.specs.Views.{type_node_of};
 
     #[cycle(duplicate)]
     fn duplicate(&self, alloc: Global) -> Result<TypeNode, OutOfMemory>
@@ -136,7 +136,7 @@ impl TypeNode {
 
 impl TypeExprs {
     ghost use Rattle.std.specs.Prelude.{◌≡◌, IfOk};
-    ghost use Rattle.surface_syntax.specs.Views.{types_of};
+    ghost use Rattle.surface_trees.specs.Views.{types_of};
 
     // A recursion along the list: a tuple has at most eight parts, a function at most six parameters.
     #[cycle(duplicate)]

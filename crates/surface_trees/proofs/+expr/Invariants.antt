@@ -1,8 +1,8 @@
 use Rattle.std.proofs.Common.{◌≤◌}
-use Rattle.surface_syntax.specs.declared.exprs.ExprList.{size-ExprList}
-use Rattle.surface_syntax.specs.declared.exprs.Bindings.{size-Bindings}
-use Rattle.surface_syntax.specs.declared.exprs.Members.{size-Members}
-use Rattle.surface_syntax.proofs.+expr.Given as goal
+use Rattle.surface_trees.specs.declared.exprs.ExprList.{size-ExprList}
+use Rattle.surface_trees.specs.declared.exprs.Bindings.{size-Bindings}
+use Rattle.surface_trees.specs.declared.exprs.Members.{size-Members}
+use Rattle.surface_trees.proofs.+expr.Given as goal
 
 abbrev pub invariant-exprs::ExprList::drop-loop-self : goal.invariant-exprs::ExprList::drop-loop-self
 invariant-exprs::ExprList::drop-loop-self l = size-ExprList l.self ≤ size-ExprList l.fn.self

@@ -1,12 +1,9 @@
 // Expressions and programs, with every derived form expanded.
 
-use crate::derived::linked;
 use crate::names::Ident;
 use crate::types::{Params, TypeExpr};
-use grift_base::lists::OutOfMemory;
 use grift_base::operators::PrimOp;
 use grift_base::places::Pos;
-use std::alloc::Global;
 
 /// An expression and its place. What a derived form expands to has the place of that form.
 #[cycle(expr)]
@@ -177,29 +174,20 @@ impl Drop for Members {
 }
 
 impl ExprList {
-    ghost use Rattle.std.specs.Prelude.{◌≡◌, IfOk};
-    ghost use Rattle.surface_syntax.specs.Views.{expr_of, exprs_of};
-    ghost use Rattle.surface_syntax.specs.Expansion.{chain_of};
+    ghost use Rattle.std.specs.Prelude.{◌≡◌, ◌<◌, IfNone, IfSome};
+    ghost use Rattle.surface_trees.specs.Trees.{NoExprs, ExprThen};
+    ghost use Rattle.surface_trees.specs.Views.{expr_of, exprs_of};
+    ghost use Rattle.surface_trees.specs.declared.exprs.ExprList.{size-ExprList};
 
-    // These operands of an `and`, where all are to hold, or of an `or`. A recursion along the list: there are
-    // eight at most.
-    pub(crate) fn chain(self, alloc: Global, all: bool, pos: Pos) -> Result<Expr, OutOfMemory>
-        ensures { IfOk result (λ e. expr_of e ≡ chain_of all pos (exprs_of self)) }
+    /// The first expression and those behind it, if there is one.
+    pub fn split(self) -> Option<(Expr, ExprList)>
+        ensures none { IfNone result (exprs_of self ≡ NoExprs) }
+        ensures some { IfSome result (λ two. exprs_of self ≡ ExprThen (expr_of two.0) (exprs_of two.1)) }
+        ensures smaller { IfSome result (λ two. size-ExprList two.1 < size-ExprList self) }
     {
         match self {
-            ExprList::Nil => Ok(Expr {
-                pos,
-                node: ExprNode::Bool(all),
-            }),
-            ExprList::Cons(first, rest) => {
-                let first = Box::into_inner(first);
-                let rest = Box::into_inner(rest);
-                if let ExprList::Nil = &rest {
-                    return Ok(first);
-                }
-                let others = rest.chain(alloc, all, pos)?;
-                linked(alloc, all, pos, first, others)
-            }
+            ExprList::Nil => None,
+            ExprList::Cons(first, rest) => Some((Box::into_inner(first), Box::into_inner(rest))),
         }
     }
 }
