@@ -25,21 +25,27 @@ use Rattle.rv_machine.specs.Start.{IsRegionSize, IsStackSize, start_of, fresh_wo
 use Rattle.rv_machine.specs.Image.{IsImage}
 use Rattle.rv_machine.specs.Mach.{mach, moment_of}
 use Rattle.rv_machine.proofs.Public.{run_is_its_turns-states}
-use Rattle.front_end.specs.Texts.{IsFault}
+use Rattle.front_end.specs.Texts.{HasOutcome, IsFault}
+use Rattle.core_calc.specs.Views.{term_of}
 use Rattle.cast_insert.specs.Making.{Entry}
+use Rattle.cast_insert.specs.Outcomes.{Elaborates}
+use Rattle.cast_insert.specs.Views.{entries_of}
+use Rattle.cast_insert.specs.declared.insertion.Elab.{Elab}
 use Rattle.compile_driver.specs.Bounds.{KeepsAccount}
 use Rattle.compile_driver.specs.Compiling.{FollowsProgram, HasProgram, IsTold, program_of, tallest_in}
 use Rattle.compile_driver.specs.Space.{KeepsSpace}
 use Rattle.compile_driver.specs.declared.compiling.Compiled.{Compiled}
-use Rattle.blame_audit.specs.Claims.{NeverTellsBlame}
+use Rattle.blame_audit.specs.Claims.{NeverTellsBlame, program_over}
+use Rattle.listing.specs.CastLines.{cast_listing}
 use Rattle.grift_base.specs.Sink.{Untouched}
-use Rattle.grift_cli.specs.Aspects.{command_about}
+use Rattle.grift_base.specs.Types.{TypeRows}
+use Rattle.grift_cli.specs.Aspects.{PutsAspect, command_about}
 use Rattle.grift_cli.specs.Answers.{image_fault}
 use Rattle.grift_cli.specs.Calls.{CallSeen, PutsNothing, File, AreLoaded, AsksNothing, LoadsFiles, HasLoaded}
 use Rattle.grift_cli.specs.Calls.{file_of, input_of, source_file}
 use Rattle.grift_cli.specs.Auditing.{IsAuditFile, IsNeverBlamed, PutsAudit}
-use Rattle.grift_cli.specs.Checking.{ElaboratesFile, PutsLines}
-use Rattle.grift_cli.specs.Commands.{Command, Run, Exec, Check, Audit, Model, IsCommand, IsGen}
+use Rattle.grift_cli.specs.Checking.{ElaboratesFile, PutsLines, checked_text}
+use Rattle.grift_cli.specs.Commands.{Command, Run, Exec, Check, Audit, Casts, Model, IsCommand, IsGen}
 use Rattle.grift_cli.specs.Generating.{Generates, HasGenerated}
 use Rattle.grift_cli.specs.Listing.{IsImageOf, IsShownFile, PutsShown, Shows, command_by, seen_by}
 use Rattle.grift_cli.specs.Modelling.{IsModelFile, Models}
@@ -413,6 +419,47 @@ says_shown call bytes PutFailed s x =
 says_shown call bytes NoMemory s x =
     says_no_memory call s.command s.text [] s.loaded (record { out = x; img = s.no_image })
 says_shown call bytes report s x = absurd x
+
+-- ---- a source of which an aspect is told
+
+-- what is told of the source is put
+pub says_aspect : (call : CallSeen) (aspect : Aspect) (file text : List ℕ) (types : TypeRows) (elab : Elab)
+    (report : Report) → HasLoaded call (command_about aspect file) text []
+    → HasOutcome text (Elaborates (term_of elab.core) elab.ty.0 types elab.labels (entries_of elab.casts))
+    → Untouched call.img → PutsAspect aspect types elab call.out report → Says report call
+says_aspect call Summary file text types elab report l e none x =
+    says_check call (checked_text types elab.ty.0 (entries_of elab.casts)) report (record {
+      file = file;
+      text = text;
+      loaded = l;
+      term = term_of elab.core;
+      type = elab.ty.0;
+      types = types;
+      labels = elab.labels;
+      casts = entries_of elab.casts;
+      elaborated = e;
+      lines_are = refl;
+      no_image = none;
+    }) x
+says_aspect call SafeLabels file text types elab report l e none x =
+    says_audit call (program_over types elab) (entries_of elab.casts) report
+    (record { file = file; text = text; loaded = l; type = elab.ty.0; elaborated = e; no_image = none }) x
+says_aspect call Coercions file text types elab report l e none x =
+    says_shown call (cast_listing types elab.labels (entries_of elab.casts)) report (record {
+      command = Casts file;
+      text = text;
+      loaded = l;
+      shows = record {
+        term = term_of elab.core;
+        type = elab.ty.0;
+        types = types;
+        labels = elab.labels;
+        casts = entries_of elab.casts;
+        elaborated = e;
+        lines_are = refl;
+      };
+      no_image = none;
+    }) x
 
 -- ---- a program of the family
 

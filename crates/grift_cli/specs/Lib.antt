@@ -4,12 +4,12 @@ pub mod Commands
 pub mod ReadCommands
 pub mod Answers
 pub mod Calls
-pub mod Aspects
 pub mod Checking
 pub mod Auditing
 pub mod Modelling
 pub mod Lines
 pub mod Listing
+pub mod Aspects
 pub mod Generating
 pub mod Outcome
 pub mod Running

@@ -11,12 +11,10 @@ ghost use Rattle.grift_cli.specs.Outcome.{Says};
 ghost use Rattle.grift_cli.specs.ReadCommands.{name_bytes};
 ghost use Rattle.grift_cli.specs.Reporting.{PutsLine, PutsReport, IsAnswered, report_line, report_status};
 
-use crate::aspects::Aspect;
-use crate::audits::put_audit;
-use crate::checks::put_lines;
+use crate::aspects::{Aspect, put_aspect};
 use crate::commands::{Command, Limits, read_words};
 use crate::generator::generate;
-use crate::listings::{View, put_casts, put_view};
+use crate::listings::{View, put_view};
 use crate::loads::{Loaded, load_files};
 use crate::models::run_model;
 use crate::reports::{
@@ -201,11 +199,7 @@ fn report_of_aspect<S: Shelf, O: Sink>(
         Err(fault) => return report_of_load(fault),
     };
     match elaborate_text(alloc, loaded.bytes.as_slice()) {
-        Ok(done) => match aspect {
-            Aspect::Summary => put_lines(alloc, &done, out),
-            Aspect::SafeLabels => put_audit(alloc, &done, out),
-            Aspect::Coercions => put_casts(alloc, &done, out),
-        },
+        Ok(done) => put_aspect(alloc, aspect, &done, out),
         Err(fault) => report_of_source(fault),
     }
 }
