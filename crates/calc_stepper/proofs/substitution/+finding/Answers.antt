@@ -10,7 +10,8 @@ find-returns-in_ok-find-in-Call t c =
 
 pub find-returns-in_ok-find-in-Enter : goal.find-returns-in_ok-find-in-Enter
 find-returns-in_ok-find-in-Enter t c =
-    rw (ap term_of c.in-Enter.is, ← c.deref-in-Enter.ensures, ← c.in_ok-find-in-Enter.ensures) c.find_in_terms-in-Enter.ensures
+    rw (ap term_of c.in-Enter.is, ← c.deref-in-Enter.ensures, ← c.in_ok-find-in-Enter.ensures)
+    c.find_in_terms-in-Enter.ensures
 
 pub find-returns-in_ok-find-in-If-2 : goal.find-returns-in_ok-find-in-If-2
 find-returns-in_ok-find-in-If-2 t c =
