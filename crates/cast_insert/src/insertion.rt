@@ -48,9 +48,9 @@ fn run(alloc: Global, progress: &mut Progress, program: &Program) -> Result<Type
 }
 
 /// The elaboration of a program, which fills an empty table of types; or its first refusal. After a refusal the table
-/// has the rows that were formed until then, in order, each once. `OutOfMemory` comes where no memory is left, or a table
-/// is full: a row of a program that was read is never too wide or too high for its table. After it the table is empty,
-/// as before.
+/// has the rows that were formed until then, in order, each once. `OutOfMemory` comes where no memory is left, or a
+/// table is full: a row of a program that was read is never too wide or too high for its table. After it the table is
+/// empty, as before.
 pub fn insert(alloc: Global, program: &Program, types: &mut TypeTable) -> Result<Elab, FrontFault>
     requires source { IsSource (expr_of program.now.body) }
     requires empty { types.old ≡ [] }

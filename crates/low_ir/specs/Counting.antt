@@ -1,6 +1,7 @@
 -- What a run over words says of its storage: the words that it took, and when it stops for want of region.
 use Rattle.std.specs.Prelude.{ℕ, ◌+◌, ◌*◌, ◌%◌, ◌^◌, ◌<◌, ◌≤◌, ◌≡◌, ◌≢◌, ◌⊎◌, ◌==◌, ◌||◌, Bool, false, List, [], ◌∷◌}
 use Rattle.std.specs.Prelude.{None, Some}
+use Rattle.grift_base.specs.declared.environment.TheConstants.{REGION_OUT_CALL}
 use Rattle.run_laws.specs.Runs.{Ending, Wrong, Moment}
 use Rattle.machine_words.specs.Halts.{Halt, Lacks, Region}
 use Rattle.low_ir.specs.Procedures.{Code, Done, Set, Compute, Load, Store, CodeOf, Build, Request, Take, Environment}
@@ -53,7 +54,7 @@ pub record CountsWords {V : Type 0} (reading : Halt → Ending V) (setting : Set
   -- where it has ended so too, or it has stopped for want of region as what was asked for doesn't fit
   pub ended : (e : Ending V) → x.ending ≡ Some e
       → FillsUpTo setting x.shown ⊎ ((e ≡ reading (Lacks Region)) × Exceeds setting x.shown)
-  -- and where it has stopped for want of region, that was so, unless the program itself makes environment call 5, by
-  -- which it gives up
-  pub lacking : any_calls 5 setting.procs ≡ false → (e : Ending V) → x.ending ≡ Some e → IsWantOfRegion reading e
+  -- and where it has stopped for want of region, that was so, unless the program itself makes the environment call
+  -- by which code gives up for want of it
+  pub lacking : any_calls REGION_OUT_CALL setting.procs ≡ false → (e : Ending V) → x.ending ≡ Some e → IsWantOfRegion reading e
       → Exceeds setting x.shown

@@ -1,6 +1,7 @@
 -- What the image of a closed program over words is to the program, where the virtual registers of its code have places.
 use Rattle.std.specs.Prelude.{ℕ, ◌+◌, ◌^◌, ◌<◌, ◌≤◌, ◌≡◌, false, List, length, Some, slice_get}
 use Rattle.grift_base.specs.World.{WorldState}
+use Rattle.grift_base.specs.declared.environment.TheConstants.{STACK_OUT_CALL}
 use Rattle.grift_base.specs.declared.places.Pos.{Pos}
 use Rattle.grift_base.specs.declared.verdicts.Verdict.{Verdict as Outcome}
 use Rattle.run_laws.specs.Runs.{Ending, Verdict, Exhausted, NeverWrong, FollowsBy, Any}
@@ -113,12 +114,12 @@ pub record ExceedsStack (procs : List Proc) (room : ℕ) (s : State) (l : LowSho
   pub there : slice_get procs number ≡ Some proc
   pub left : s.regs STACK_POINTER < s.regs STACK_END + frame_size proc.words
 
--- Where the run over words never goes wrong, and its procedures make no environment call 6: if the machine has stopped
--- in a state for want of stack, that run, with no bound on its stack, has printed the same at some moment at which it
--- exceeds the machine's stack
+-- Where the run over words never goes wrong, and its procedures don't make the environment call by which code gives up
+-- for want of stack: if the machine has stopped in a state for that, that run, with no bound on its stack, has printed
+-- the same at some moment at which it exceeds the machine's stack
 abbrev pub LacksStackAsWords : (Halt → Ending Outcome) → List ℕ → List RealItem → List Proc → ℕ → List ℕ → Type 0
 LacksStackAsWords reading image code procs entry statics =
-    IsReading reading → any_calls 6 procs ≡ false
+    IsReading reading → any_calls STACK_OUT_CALL procs ≡ false
     → (p : Proc) (told : ℕ → ℕ) (region stack : ℕ) (world : WorldState)
     → RunsIn code statics procs entry p told region stack
     → let s = start_of image region stack world in

@@ -1,6 +1,6 @@
--- The numbers that code over words is written with, by name: the fields of a header, tags of words in Dyn, and a call
--- of the environment. Kinds have their names in `Kinds.antt` of object_layout, headers are made by `header` of
--- coercion_norm.
+-- The numbers that code over words is written with, by name: the fields of a header, tags of words in Dyn, and places
+-- in an object. Kinds have their names in `Kinds.antt` of object_layout, headers are made by `header` of coercion_norm,
+-- and calls of the environment have theirs in `environment.rt` of grift_base.
 --
 -- Word k of an object stands 8 k bytes behind its address, and word 0 is its header. The words behind that are: of a
 -- proxy what it stands on, and its coercion; of a value in Dyn the address of the type that it keeps, and the value; of

@@ -1,8 +1,8 @@
 use Rattle.std.proofs.Common.{rules, ◌∙◌, refl, ap}
 use Rattle.low_ir.specs.declared.code.LowCode.{the_lemmas}
 use Rattle.low_ir.specs.Views.{code_of}
-use Rattle.rv_select.proofs.Emitting.{behind, build_behind, call_at_behind, call_behind, compute_behind, goes_on, if_more}
-use Rattle.rv_select.proofs.Emitting.{load_behind, marks_more, request_behind, store_behind, take_behind}
+use Rattle.rv_select.proofs.Emitting.{behind, build_behind, call_at_behind, call_behind, compute_behind, goes_on}
+use Rattle.rv_select.proofs.Emitting.{if_more, load_behind, marks_more, request_behind, store_behind, take_behind}
 use Rattle.rv_select.proofs.selection.+put_code.Goals as goal
 
 pub loop-left-preserved : goal.loop-left-preserved
