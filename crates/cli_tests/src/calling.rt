@@ -1,12 +1,13 @@
 // Calls of the program over a shelf and sinks in memory, as rows of a table tell them.
 
-use crate::words::{NoMemory, words_of};
+use crate::words::words_of;
 use grift_base::lists::{Bytes, CallList, Name, NamedFiles};
 use grift_base::shelves::MemShelf;
 use grift_base::sinks::MemSink;
 use grift_cli::top::grift;
 use std::alloc::Global;
 use std::fmt::Write;
+use std::process::Abort;
 
 // What a file holds, or what is put.
 #[derive(Clone, Copy)]
@@ -51,120 +52,123 @@ pub(crate) struct Left {
 }
 
 // Adds a copy of a text, told its number.
-fn push_copy(all: &mut String, text: &str, number: u64) -> Result<(), NoMemory> {
+fn push_copy(rt: &impl Abort, all: &mut String, text: &str, number: u64) {
     for letter in text.chars() {
         match letter {
-            '@' => write!(all, "{number}")?,
-            '$' => write!(all, "{}", number.wrapping_add(1))?,
-            _ => all.push(letter)?,
+            '@' => write!(all, "{number}").expect(rt, "memory"),
+            '$' => write!(all, "{}", number.wrapping_add(1)).expect(rt, "memory"),
+            _ => all.push(letter).expect(rt, "memory"),
         }
     }
-    Ok(())
 }
 
-fn push_copies(all: &mut String, text: &str, count: u64) -> Result<(), NoMemory> {
+fn push_copies(rt: &impl Abort, all: &mut String, text: &str, count: u64) {
     for number in 0..count {
-        push_copy(all, text, number)?;
+        push_copy(rt, all, text, number);
     }
-    Ok(())
 }
 
-fn copies(alloc: Global, parts: &[(&str, u64)]) -> Result<Vec<u8>, NoMemory> {
+fn copies(rt: &impl Abort, alloc: Global, parts: &[(&str, u64)]) -> Vec<u8> {
     let mut all = String::new(alloc);
     for (text, count) in parts {
-        push_copies(&mut all, text, *count)?;
+        push_copies(rt, &mut all, text, *count);
     }
-    Ok(Vec::from_slice(alloc, all.as_bytes())?)
+    Vec::from_slice(alloc, all.as_bytes()).expect(rt, "memory")
 }
 
 // The header of an image with so many bytes of code, and the code.
-fn image_of_code(alloc: Global, code: &[u32]) -> Result<Vec<u8>, NoMemory> {
+fn image_of_code(rt: &impl Abort, alloc: Global, code: &[u32]) -> Vec<u8> {
     let bytes = 4 * code.len() as u64;
-    let mut image = Vec::from_slice(alloc, b"GRIFTRV1")?;
+    let mut image = Vec::from_slice(alloc, b"GRIFTRV1").expect(rt, "memory");
     for field in [64 + bytes, 0, bytes, 0, 0, 0, 0] {
-        image.extend_from_slice(&field.to_le_bytes())?;
+        image
+            .extend_from_slice(&field.to_le_bytes())
+            .expect(rt, "memory");
     }
     for word in code {
-        image.extend_from_slice(&word.to_le_bytes())?;
+        image
+            .extend_from_slice(&word.to_le_bytes())
+            .expect(rt, "memory");
     }
-    Ok(image)
+    image
 }
 
 // The bytes of a content.
-pub(crate) fn bytes_of(alloc: Global, told: Content) -> Result<Vec<u8>, NoMemory> {
+pub(crate) fn bytes_of(rt: &impl Abort, alloc: Global, told: Content) -> Vec<u8> {
     match told {
-        Content::Text(text) => Ok(Vec::from_slice(alloc, text.as_bytes())?),
-        Content::Bytes(bytes) => Ok(Vec::from_slice(alloc, bytes)?),
-        Content::Copies(parts) => copies(alloc, parts),
-        Content::Image(code) => image_of_code(alloc, code),
+        Content::Text(text) => Vec::from_slice(alloc, text.as_bytes()).expect(rt, "memory"),
+        Content::Bytes(bytes) => Vec::from_slice(alloc, bytes).expect(rt, "memory"),
+        Content::Copies(parts) => copies(rt, alloc, parts),
+        Content::Image(code) => image_of_code(rt, alloc, code),
     }
 }
 
 // Puts a file into a list of files.
-fn put_file(
-    alloc: Global,
-    files: &mut NamedFiles,
-    name: &str,
-    held: &[u8],
-) -> Result<(), NoMemory> {
-    let name = Name::from_slice(alloc, name.as_bytes())?;
-    let held = Bytes::from_slice(alloc, held)?;
-    files.push((name, held))?;
-    Ok(())
+fn put_file(rt: &impl Abort, alloc: Global, files: &mut NamedFiles, name: &str, held: &[u8]) {
+    let name = Name::from_slice(alloc, name.as_bytes()).expect(rt, "memory");
+    let held = Bytes::from_slice(alloc, held).expect(rt, "memory");
+    files.push((name, held)).expect(rt, "memory");
 }
 
-fn shelf_of(alloc: Global, row: &Row, file: &[u8]) -> Result<MemShelf, NoMemory> {
+fn shelf_of(rt: &impl Abort, alloc: Global, row: &Row, file: &[u8]) -> MemShelf {
     let mut files = NamedFiles::new(alloc);
-    put_file(alloc, &mut files, "a", file)?;
-    put_file(alloc, &mut files, "b", row.input.as_bytes())?;
-    let failing = CallList::from_slice(alloc, row.shelf_fails)?;
-    Ok(MemShelf::new(alloc, files, failing))
+    put_file(rt, alloc, &mut files, "a", file);
+    put_file(rt, alloc, &mut files, "b", row.input.as_bytes());
+    let failing = CallList::from_slice(alloc, row.shelf_fails).expect(rt, "memory");
+    MemShelf::new(alloc, files, failing)
 }
 
-fn sink_failing(alloc: Global, calls: &[u64]) -> Result<MemSink, NoMemory> {
-    Ok(MemSink::new(alloc, CallList::from_slice(alloc, calls)?)?)
+fn sink_failing(rt: &impl Abort, alloc: Global, calls: &[u64]) -> MemSink {
+    let failing = CallList::from_slice(alloc, calls).expect(rt, "memory");
+    MemSink::new(alloc, failing).expect(rt, "memory")
 }
 
 // Makes the call of a row, where the file `a` holds this.
-pub(crate) fn call(alloc: Global, row: &Row, file: &[u8]) -> Result<Left, NoMemory> {
-    call_by(alloc, row.words, row, file)
+pub(crate) fn call(rt: &impl Abort, alloc: Global, row: &Row, file: &[u8]) -> Left {
+    call_by(rt, alloc, row.words, row, file)
 }
 
 // Makes the call of a row by these words, where the file `a` holds this.
-pub(crate) fn call_by(
-    alloc: Global,
-    words: &str,
-    row: &Row,
-    file: &[u8],
-) -> Result<Left, NoMemory> {
-    let mut left = Left {
-        status: 0,
-        shelf: shelf_of(alloc, row, file)?,
-        out: sink_failing(alloc, row.out_fails)?,
-        err: sink_failing(alloc, row.err_fails)?,
-        img: sink_failing(alloc, row.img_fails)?,
-    };
-    let words = words_of(alloc, words)?;
-    left.status = grift(
+pub(crate) fn call_by(rt: &impl Abort, alloc: Global, words: &str, row: &Row, file: &[u8]) -> Left {
+    let words = words_of(rt, alloc, words);
+    let mut shelf = shelf_of(rt, alloc, row, file);
+    let mut out = sink_failing(rt, alloc, row.out_fails);
+    let mut err = sink_failing(rt, alloc, row.err_fails);
+    let mut img = sink_failing(rt, alloc, row.img_fails);
+    let status = grift(
         alloc,
         words.as_slice(),
-        &mut left.shelf,
-        &mut left.out,
-        &mut left.err,
-        &mut left.img,
+        &mut shelf,
+        &mut out,
+        &mut err,
+        &mut img,
     );
-    Ok(left)
+    Left {
+        status,
+        shelf,
+        out,
+        err,
+        img,
+    }
+}
+
+// Whether a sink holds what is told.
+fn holds(rt: &impl Abort, alloc: Global, sink: &MemSink, told: Content) -> bool {
+    let bytes = bytes_of(rt, alloc, told);
+    sink.bytes() == bytes.as_slice()
+}
+
+// Whether what a call left is what its row tells.
+fn is_told(rt: &impl Abort, alloc: Global, left: &Left, row: &Row) -> bool {
+    left.status == row.status
+        && left.shelf.asked().len() == row.asked
+        && left.img.bytes().is_empty() != row.img
+        && left.err.bytes() == row.err.as_bytes()
+        && holds(rt, alloc, &left.out, row.out)
 }
 
 // Whether the call of a row, where the file `a` holds this, comes to what the row tells.
-pub(crate) fn comes_to(alloc: Global, row: &Row, file: &[u8]) -> Result<bool, NoMemory> {
-    let out = bytes_of(alloc, row.out)?;
-    let left = call(alloc, row, file)?;
-    Ok(
-        left.status == row.status
-            && left.shelf.asked().len() == row.asked
-            && left.img.bytes().is_empty() != row.img
-            && left.out.bytes() == out.as_slice()
-            && left.err.bytes() == row.err.as_bytes(),
-    )
+pub(crate) fn comes_to(rt: &impl Abort, alloc: Global, row: &Row, file: &[u8]) -> bool {
+    let left = call_by(rt, alloc, row.words, row, file);
+    is_told(rt, alloc, &left, row)
 }

@@ -1,7 +1,9 @@
 // Which words are which command. Words that are none stand among the calls.
 
-use crate::words::{NoMemory, words_of};
+use crate::words::words_of;
 use grift_cli::commands::{Command, image_name, read_words};
+use std::alloc::Global;
+use std::process::Abort;
 
 const COMMANDS: &[(&str, Command<'static>)] = &[
     (
@@ -160,17 +162,19 @@ const COMMANDS: &[(&str, Command<'static>)] = &[
     ),
 ];
 
+// Whether a line is read as this command, and has the name that it has for an image.
+fn is_read(rt: &impl Abort, alloc: Global, line: &str, command: Command<'static>) -> bool {
+    let words = words_of(rt, alloc, line);
+    let image = match command {
+        Command::Run { image, .. } => image,
+        _ => None,
+    };
+    read_words(words.as_slice()) == Some(command) && image_name(words.as_slice()) == image
+}
+
 #[test]
-fn words_and_commands(rt: HostRuntime) -> Result<(), NoMemory> {
+fn words_and_commands(rt: HostRuntime) {
     for (line, command) in COMMANDS {
-        let words = words_of(rt.alloc(), line)?;
-        let image = match command {
-            Command::Run { image, .. } => *image,
-            _ => None,
-        };
-        let read = read_words(words.as_slice());
-        let named = image_name(words.as_slice());
-        assert!(rt; read == Some(*command) && named == image, "{line}");
+        assert!(rt; is_read(&rt, rt.alloc(), line, *command), "{line}");
     }
-    Ok(())
 }

@@ -2,9 +2,9 @@
 
 use crate::calling::{Content, Row, bytes_of, call, comes_to};
 use crate::calls::{EXEC, ON_INPUT, RUN, TWICE_CAST};
-use crate::words::NoMemory;
 use Content::Text;
 use std::alloc::Global;
+use std::process::Abort;
 
 // Runs of one source on two inputs.
 const RUNS: [&Row; 2] = [
@@ -52,45 +52,46 @@ const ANSWERS: &[Row] = &[
 ];
 
 // What a run puts as its image.
-fn image_put(alloc: Global, row: &Row) -> Result<Vec<u8>, NoMemory> {
-    let file = bytes_of(alloc, row.file)?;
-    let left = call(alloc, row, file.as_slice())?;
-    Ok(Vec::from_slice(alloc, left.img.bytes())?)
+fn image_put(rt: &impl Abort, alloc: Global, row: &Row) -> Vec<u8> {
+    let file = bytes_of(rt, alloc, row.file);
+    let left = call(rt, alloc, row, file.as_slice());
+    Vec::from_slice(alloc, left.img.bytes()).expect(rt, "memory")
 }
 
 // The image of each run, where they are equal.
-fn one_image_put(alloc: Global) -> Result<Option<Vec<u8>>, NoMemory> {
+fn one_image_put(rt: &impl Abort, alloc: Global) -> Option<Vec<u8>> {
     let [first, second] = RUNS;
-    let image = image_put(alloc, first)?;
-    let other = image_put(alloc, second)?;
-    if image == other {
-        Ok(Some(image))
+    let image = image_put(rt, alloc, first);
+    if image == image_put(rt, alloc, second) {
+        Some(image)
     } else {
-        Ok(None)
+        None
     }
 }
 
 // One image serves each input: that of a run on one input is that of a run on another, and `exec` runs it on any.
 #[test]
-fn one_image(rt: HostRuntime) -> Result<(), NoMemory> {
-    let image = one_image_put(rt.alloc())?.expect(&rt, "two images");
+fn one_image(rt: HostRuntime) {
+    let image = one_image_put(&rt, rt.alloc()).expect(&rt, "two images");
     for row in ANSWERS {
-        assert!(rt; comes_to(rt.alloc(), row, image.as_slice())?, "{}", row.err);
+        assert!(rt;
+            comes_to(&rt, rt.alloc(), row, image.as_slice()),
+            "{}",
+            row.err
+        );
     }
-    Ok(())
 }
 
 // Whether a source is refused, and nothing is put but the line that says so.
-fn is_refused(alloc: Global, file: &[u8]) -> Result<bool, NoMemory> {
-    let left = call(alloc, &RUN, file)?;
-    Ok(left.status == 1 && left.out.bytes().is_empty() && left.img.bytes().is_empty())
+fn is_refused(rt: &impl Abort, alloc: Global, file: &[u8]) -> bool {
+    let left = call(rt, alloc, &RUN, file);
+    left.status == 1 && left.out.bytes().is_empty() && left.img.bytes().is_empty()
 }
 
 #[test]
-fn a_source_that_is_cut_short_is_refused(rt: HostRuntime) -> Result<(), NoMemory> {
+fn a_source_that_is_cut_short_is_refused(rt: HostRuntime) {
     let source = TWICE_CAST.as_bytes();
     for length in 0..source.len() {
-        assert!(rt; is_refused(rt.alloc(), &source[..length])?, "{length}");
+        assert!(rt; is_refused(&rt, rt.alloc(), &source[..length]), "{length}");
     }
-    Ok(())
 }

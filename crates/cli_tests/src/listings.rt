@@ -1,13 +1,13 @@
 // Calls that show a source, and calls that make one from a number: a row for each.
 
 use crate::calling::{Content, Row, call};
-use crate::calls::{RUN, UNREAD, wrong_row};
-use crate::words::NoMemory;
+use crate::calls::{RUN, UNREAD, all_right};
 use Content::Text;
-use assembler::image::{ImageFault, read_image};
-use listing::code::code_words;
+use assembler::image::read_image;
+use listing::code::{CodeWords, code_words};
 use listing::reading::read_code_text;
 use std::alloc::Global;
+use std::process::Abort;
 
 const CASTS: Row = Row {
     words: "casts a",
@@ -226,42 +226,49 @@ const NUMBERS: &[Row] = &[
 ];
 
 #[test]
-fn sources_are_shown(rt: HostRuntime) -> Result<(), NoMemory> {
-    let wrong = wrong_row(rt.alloc(), LISTINGS)?;
-    assert!(rt; wrong.is_empty(), "{wrong}");
-    Ok(())
+fn sources_are_shown(rt: HostRuntime) {
+    all_right(&rt, rt.alloc(), LISTINGS);
 }
 
 #[test]
-fn programs_are_made_from_numbers(rt: HostRuntime) -> Result<(), NoMemory> {
-    let wrong = wrong_row(rt.alloc(), NUMBERS)?;
-    assert!(rt; wrong.is_empty(), "{wrong}");
-    Ok(())
+fn programs_are_made_from_numbers(rt: HostRuntime) {
+    all_right(&rt, rt.alloc(), NUMBERS);
 }
 
-impl From<ImageFault> for NoMemory {
-    fn from(_fault: ImageFault) -> NoMemory {
-        NoMemory
-    }
+// The words of an image's code.
+fn words_of_code(rt: &impl Abort, alloc: Global, image: &[u8]) -> CodeWords {
+    let image = read_image(alloc, image).expect(rt, "no image");
+    code_words(alloc, &image).expect(rt, "memory")
 }
 
 // Whether a listing of code reads back to the words of this image's code, of which there are some.
-fn reads_back(alloc: Global, listing: &[u8], image: &[u8]) -> Result<bool, NoMemory> {
-    let words = code_words(alloc, &read_image(alloc, image)?)?;
-    let Some(listed) = read_code_text(alloc, listing)? else {
-        return Ok(false);
-    };
-    Ok(listed.as_slice() == words.as_slice() && !words.as_slice().is_empty())
+fn reads_back(rt: &impl Abort, alloc: Global, listing: &[u8], image: &[u8]) -> bool {
+    let words = words_of_code(rt, alloc, image);
+    let listed = read_code_text(alloc, listing).expect(rt, "memory");
+    match listed {
+        Some(listed) => listed.as_slice() == words.as_slice() && !words.as_slice().is_empty(),
+        None => false,
+    }
+}
+
+// What a call puts on `out`.
+fn output_of(rt: &impl Abort, alloc: Global, row: &Row, file: &[u8]) -> Vec<u8> {
+    let left = call(rt, alloc, row, file);
+    Vec::from_slice(alloc, left.out.bytes()).expect(rt, "memory")
+}
+
+// What a run puts as the image of a file.
+fn image_of_run(rt: &impl Abort, alloc: Global, file: &[u8]) -> Vec<u8> {
+    let left = call(rt, alloc, &RUN, file);
+    Vec::from_slice(alloc, left.img.bytes()).expect(rt, "memory")
 }
 
 // The code of a file is that of its image, which a run puts too.
 #[test]
-fn code_image_and_run_have_one_image(rt: HostRuntime) -> Result<(), NoMemory> {
+fn code_image_and_run_have_one_image(rt: HostRuntime) {
     let file = b"(begin (print-int (+ 40 2)) (newline) 7)";
-    let image = call(rt.alloc(), &IMAGE, file)?;
-    let run = call(rt.alloc(), &RUN, file)?;
-    let code = call(rt.alloc(), &CODE, file)?;
-    assert!(rt; image.out.bytes() == run.img.bytes());
-    assert!(rt; reads_back(rt.alloc(), code.out.bytes(), image.out.bytes())?);
-    Ok(())
+    let image = output_of(&rt, rt.alloc(), &IMAGE, file);
+    assert!(rt; image == image_of_run(&rt, rt.alloc(), file));
+    let code = output_of(&rt, rt.alloc(), &CODE, file);
+    assert!(rt; reads_back(&rt, rt.alloc(), code.as_slice(), image.as_slice()));
 }

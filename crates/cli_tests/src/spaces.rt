@@ -1,17 +1,17 @@
 // What runs with `--space` tell of their storage: a row for each.
 
 use crate::calling::{Content, Row, call_by};
-use crate::calls::{RUN, UNREAD, wrong_row};
-use crate::words::NoMemory;
+use crate::calls::{RUN, UNREAD, all_right};
 use Content::Text;
 use std::alloc::Global;
+use std::process::Abort;
 
 const SPACE: Row = Row {
     words: "run a --space",
     ..RUN
 };
 
-// All lines, of programs whose objects are counted by hand; and reports that have none but their own.
+// All lines, of programs whose objects are counted by hand.
 const LINES: &[Row] = &[
     Row {
         file: Text("42"),
@@ -64,7 +64,10 @@ const LINES: &[Row] = &[
         err: "answer 5\nspace bytes 0\nspace objects 0\nspace proxies 0\nspace stacked 0\nspace highest 0\nspace tallest 0\n",
         ..SPACE
     },
-    // no lines but those of a verdict have more behind them
+];
+
+// No lines but those of a verdict have more behind them.
+const NO_LINES: &[Row] = &[
     Row {
         file: Text("(+ 1 #t)"),
         status: 1,
@@ -145,17 +148,18 @@ const LOOPS: &[Row] = &[
 ];
 
 #[test]
-fn lines_of_storage(rt: HostRuntime) -> Result<(), NoMemory> {
-    let wrong = wrong_row(rt.alloc(), LINES)?;
-    assert!(rt; wrong.is_empty(), "{wrong}");
-    Ok(())
+fn lines_of_storage(rt: HostRuntime) {
+    all_right(&rt, rt.alloc(), LINES);
 }
 
 #[test]
-fn casts_do_not_pile_up(rt: HostRuntime) -> Result<(), NoMemory> {
-    let wrong = wrong_row(rt.alloc(), LOOPS)?;
-    assert!(rt; wrong.is_empty(), "{wrong}");
-    Ok(())
+fn reports_without_lines_of_storage(rt: HostRuntime) {
+    all_right(&rt, rt.alloc(), NO_LINES);
+}
+
+#[test]
+fn casts_do_not_pile_up(rt: HostRuntime) {
+    all_right(&rt, rt.alloc(), LOOPS);
 }
 
 // How a run in a region of so many bytes ends.
@@ -173,31 +177,29 @@ fn is_lean(text: &[u8]) -> bool {
         || text.ends_with(b"space stacked 0\nspace highest 1\nspace tallest 1\n")
 }
 
+// How a call with this status and these lines ended.
+fn end_told(status: u8, text: &[u8]) -> End {
+    match status {
+        0 if is_lean(text) && text.starts_with(b"answer 7\n") => End::Answers,
+        5 if is_lean(text) && text.starts_with(b"exhausted region\n") => End::Exhausted,
+        _ => End::Otherwise,
+    }
+}
+
 // How the run of a program that casts a box ends in a region of so many bytes.
-fn end_in(alloc: Global, region: u64) -> Result<End, NoMemory> {
-    let words = format!(in alloc; "run a --region {region} --space")?;
+fn end_in(rt: &impl Abort, alloc: Global, region: u64) -> End {
+    let words = format!(in alloc; "run a --region {region} --space").expect(rt, "memory");
     let file = b"(let ([b (box 1)]) (let ([d (: b (Ref Dyn))]) (begin (box-set! d 7) (unbox b))))";
-    let left = call_by(alloc, words.as_str(), &SPACE, file)?;
-    let text = left.err.bytes();
-    let status = left.status;
-    if !is_lean(text) {
-        return Ok(End::Otherwise);
-    }
-    if status == 0 && text.starts_with(b"answer 7\n") {
-        return Ok(End::Answers);
-    }
-    if status == 5 && text.starts_with(b"exhausted region\n") {
-        return Ok(End::Exhausted);
-    }
-    Ok(End::Otherwise)
+    let left = call_by(rt, alloc, words.as_str(), &SPACE, file);
+    end_told(left.status, left.err.bytes())
 }
 
 // A run with every region up to 1,024 bytes is exhausted or ends; and once one ends, each with more room does.
 #[test]
-fn regions_of_all_sizes(rt: HostRuntime) -> Result<(), NoMemory> {
+fn regions_of_all_sizes(rt: HostRuntime) {
     let mut last = End::Exhausted;
     for eighth in 0..129_u64 {
-        let end = end_in(rt.alloc(), 8 * eighth)?;
+        let end = end_in(&rt, rt.alloc(), 8 * eighth);
         assert!(rt;
             end != End::Otherwise && (end == last || last == End::Exhausted),
             "{eighth}"
@@ -205,5 +207,4 @@ fn regions_of_all_sizes(rt: HostRuntime) -> Result<(), NoMemory> {
         last = end;
     }
     assert!(rt; last == End::Answers);
-    Ok(())
 }

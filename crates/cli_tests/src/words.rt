@@ -1,40 +1,17 @@
-// Words on a command line, and the want of memory for a test.
+// Words on a command line.
 
-use grift_base::lists::OutOfMemory;
-use std::alloc::{AllocError, Global};
-use std::fmt;
-
-// No memory was left for a test.
-#[derive(Debug, Drop)]
-pub(crate) struct NoMemory;
-
-impl From<OutOfMemory> for NoMemory {
-    fn from(_error: OutOfMemory) -> NoMemory {
-        NoMemory
-    }
-}
-
-impl From<AllocError> for NoMemory {
-    fn from(_error: AllocError) -> NoMemory {
-        NoMemory
-    }
-}
-
-impl From<fmt::Error> for NoMemory {
-    fn from(_error: fmt::Error) -> NoMemory {
-        NoMemory
-    }
-}
+use std::alloc::Global;
+use std::process::Abort;
 
 // The words of a line, which a space stands between; none where the line is empty.
-pub(crate) fn words_of(alloc: Global, line: &str) -> Result<Vec<String>, NoMemory> {
+pub(crate) fn words_of(rt: &impl Abort, alloc: Global, line: &str) -> Vec<String> {
     let mut words = Vec::new(alloc);
     if line.is_empty() {
-        return Ok(words);
+        return words;
     }
     for text in line.split(' ') {
-        let word = String::from_str(alloc, text)?;
-        words.push(word).map_err(|_| NoMemory)?;
+        let word = String::from_str(alloc, text).expect(rt, "memory");
+        words.push(word).expect(rt, "memory");
     }
-    Ok(words)
+    words
 }
