@@ -201,7 +201,7 @@ fn number_in_word(text: &[u8]) -> Option<i64>
     }
 }
 
-// Call 0.
+// What the call that ends comes to: an answer of the kind of this number, with this word.
 fn ended(kind: u64, word: u64) -> EnvEffect
     ensures { result ≡ ends kind word }
 {
@@ -232,7 +232,7 @@ fn ended_up_to(greatest: u64, kind: AnswerKind, word: u64) -> EnvEffect
     }
 }
 
-// Call 3.
+// What the call that blames comes to, in a program with so many labels.
 fn blamed(label: u64, labels: u32) -> EnvEffect
     ensures { result ≡ (if nat_lt label labels then EnvEffect.Blamed label else EnvEffect.Refused) }
 {
@@ -243,7 +243,7 @@ fn blamed(label: u64, labels: u32) -> EnvEffect
     }
 }
 
-// Call 4.
+// What the call that traps comes to: the trap of this number.
 fn trapped(kind: u64) -> EnvEffect
     ensures { result ≡ traps kind }
 {

@@ -56,5 +56,5 @@ pub record CountsWords {V : Type 0} (reading : Halt → Ending V) (setting : Set
       → FillsUpTo setting x.shown ⊎ ((e ≡ reading (Lacks Region)) × Exceeds setting x.shown)
   -- and where it has stopped for want of region, that was so, unless the program itself makes the environment call
   -- by which code gives up for want of it
-  pub lacking : any_calls REGION_OUT_CALL setting.procs ≡ false → (e : Ending V) → x.ending ≡ Some e → IsWantOfRegion reading e
-      → Exceeds setting x.shown
+  pub lacking : any_calls REGION_OUT_CALL setting.procs ≡ false → (e : Ending V) → x.ending ≡ Some e
+      → IsWantOfRegion reading e → Exceeds setting x.shown
