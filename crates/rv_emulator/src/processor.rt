@@ -36,7 +36,7 @@ pub struct Places {
 }
 
 /// What an instruction does, with its operands read.
-#[derive(Clone, Copy, PartialEq, Eq, Debug)]
+#[derive(Clone, Copy)]
 pub enum Action {
     /// A register takes a word.
     Put(Reg, u64),

@@ -15,7 +15,7 @@ use crate::number::{Imm12, Imm13, Imm21, Reg, Shift5, Shift6, Upper};
 /// The parts stand in the order in which an assembler writes them: rd or, in a store, rs2 first, then rs1, then
 /// the rest; in a branch rs1, rs2 and the offset from the branch itself. A FENCE keeps its rd, rs1 and immediate,
 /// which it does not use, so that each word has an instruction of its own.
-#[derive(Clone, Copy, PartialEq, Eq, Debug)]
+#[derive(Clone, Copy)]
 pub enum Inst {
     Lui(Reg, Upper),
     Auipc(Reg, Upper),

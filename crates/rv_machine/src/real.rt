@@ -6,7 +6,7 @@ use rv_isa::inst::Inst;
 use rv_isa::number::Reg;
 
 /// An item of code. Marks are told by numbers, and have the address of the next item that isn't a mark.
-#[derive(Clone, Copy, PartialEq, Eq, Debug)]
+#[derive(Clone, Copy)]
 pub enum RealItem {
     /// An instruction. A JALR keeps the address of the next item in its rd.
     Op(Inst),
@@ -24,7 +24,7 @@ pub enum RealItem {
 pub type RealItems = Items<RealItem>;
 
 /// A code of items, over real registers.
-#[derive(Drop, Debug)]
+#[derive(Drop)]
 pub struct RealCode {
     pub items: RealItems,
 }
