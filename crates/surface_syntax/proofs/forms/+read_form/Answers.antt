@@ -7,12 +7,12 @@ use Rattle.surface_syntax.specs.Marked.{marked, all_marked}
 use Rattle.surface_syntax.specs.Walking.{Reads}
 use Rattle.surface_syntax.specs.Pass.{then_with, paired, parse_list}
 use Rattle.surface_trees.specs.Views.{expr_of, exprs_of, params_of, lambda_of}
-use Rattle.surface_syntax.specs.Parts.{range_of, bound_of, member_of}
+use Rattle.surface_syntax.specs.Parts.{range_of, bound_of, member_of, parse_call}
 use Rattle.surface_syntax.specs.Forms.{headed_of, lambda_from}
 use Rattle.surface_syntax.specs.Claims.{Parses}
 use Rattle.surface_syntax.proofs.Steps.{place_marked}
 use Rattle.surface_syntax.proofs.FormRows.{bind_reads, bind_ok, bind_err, plain_reads, plain_err}
-use Rattle.surface_syntax.proofs.ExprRows.{form_steps}
+use Rattle.surface_syntax.proofs.ExprRows.{form_steps, no_word}
 use Rattle.surface_syntax.proofs.FormParts.{list_row, behind_row, function_row, binding_row, member_row, range_row}
 use Rattle.surface_syntax.proofs.FormParts.{plain_answers, none_of, counted_here, gathered_here, plain_body, typed_here}
 use Rattle.surface_syntax.proofs.Shapes.{one_first}
@@ -121,9 +121,11 @@ call-returns-in_err-arguments t c =
     grind (arith, form_steps)
 
 pub call-returns : goal.call-returns
-unfolding then_with paired
 call-returns t c =
-    grind (arith, form_steps)
+    ap (λ ds. parse_call c.args.pos ds c.args.names.now) (one_first c.args.elements.now c.in-Cons.is)
+    ∙ bind_reads _ _ _ _ _ (rw c.deref.ensures at c.in_ok-function.ensures)
+    (bind_reads _ _ _ _ _ (rw c.deref-2.ensures at c.in_ok-arguments.ensures)
+    (ap (λ e. Reads (e, c.within.new.names)) (sym c.in_ok-called.ensures)))
 
 pub each-returns-in_err-first : goal.each-returns-in_err-first
 unfolding then_with paired
@@ -156,6 +158,39 @@ pub headed-returns-in_ok-lambda-in-Lambda : goal.headed-returns-in_ok-lambda-in-
 headed-returns-in_ok-lambda-in-Lambda t c =
     ap (λ w. headed_of w c.args.pos (all_marked (datums_of c.args.rest.now)) c.args.names.now) c.in-Lambda.is
     ∙ bind_reads _ _ _ _ _ c.in_ok-lambda-in-Lambda.ensures refl
+
+pub headed-returns-in-Let : goal.headed-returns-in-Let
+headed-returns-in-Let t c = rw c.in-Let.is c.let_form.ensures
+
+pub headed-returns-in-Letrec : goal.headed-returns-in-Letrec
+headed-returns-in-Letrec t c = rw c.in-Letrec.is c.letrec_form.ensures
+
+pub headed-returns-in-If : goal.headed-returns-in-If
+headed-returns-in-If t c = rw c.in-If.is c.if_form.ensures
+
+pub headed-returns-in-Begin : goal.headed-returns-in-Begin
+headed-returns-in-Begin t c = rw c.in-Begin.is c.applied.ensures
+
+pub headed-returns-in-Colon : goal.headed-returns-in-Colon
+headed-returns-in-Colon t c = rw c.in-Colon.is c.ascription.ensures
+
+pub headed-returns-in-And : goal.headed-returns-in-And
+headed-returns-in-And t c = rw c.in-And.is c.applied-in-And.ensures
+
+pub headed-returns-in-Or : goal.headed-returns-in-Or
+headed-returns-in-Or t c = rw c.in-Or.is c.applied-in-Or.ensures
+
+pub headed-returns-in-Repeat : goal.headed-returns-in-Repeat
+headed-returns-in-Repeat t c = rw c.in-Repeat.is c.repeat.ensures
+
+pub headed-returns-in-Tuple : goal.headed-returns-in-Tuple
+headed-returns-in-Tuple t c = rw c.in-Tuple.is c.applied-in-Tuple.ensures
+
+pub headed-returns-in-TupleProj : goal.headed-returns-in-TupleProj
+headed-returns-in-TupleProj t c = rw c.in-TupleProj.is c.projection.ensures
+
+pub headed-returns-in-Operator : goal.headed-returns-in-Operator
+headed-returns-in-Operator t c = rw c.in-Operator.is c.applied-in-Operator.ensures
 
 pub if_form-returns-in_err-parts : goal.if_form-returns-in_err-parts
 if_form-returns-in_err-parts t c =
@@ -321,9 +356,15 @@ lets-returns-in_err-first t c =
     grind (arith, form_steps)
 
 pub list-returns-in_default-word_at : goal.list-returns-in_default-word_at
-unfolding then_with paired
 list-returns-in_default-word_at t c =
-    grind (arith, form_steps)
+    let shape = one_first c.args.elements.now c.in-Cons.is in
+    let none = rw c.deref.ensures at (sym c.word_at.ensures
+    ∙ none_of c.word_at.result c.in_default-word_at.not-Some) in
+    let row = no_word c.args.pos (marked (datum_of c.in-Cons.head.value)) (all_marked (datums_of
+    c.in-Cons.rest.value)) c.args.names.now none in
+    let same = ap (λ ds. parse_list c.args.pos ds c.args.names.now) shape ∙ row
+    ∙ ap (λ ds. parse_call c.args.pos ds c.args.names.now) (sym shape) in
+    subst (λ w. Parses c.call.result expr_of c.call.new.names w) (sym same) c.call.ensures
 
 pub list-returns-then-is_arrow : goal.list-returns-then-is_arrow
 unfolding then_with paired
