@@ -3,23 +3,24 @@
 use grift_base::operators::PrimOp;
 use surface_syntax::words::{Mark, TypeWord, Word, mark_of, operand_count, operator_text};
 
+const MARKS: &[(&str, Mark)] = &[
+    ("lambda", Mark::Reserved(Word::Lambda)),
+    ("->", Mark::Reserved(Word::Arrow)),
+    ("read-int", Mark::Reserved(Word::Operator(PrimOp::ReadInt))),
+    ("%%", Mark::Reserved(Word::Operator(PrimOp::Rem))),
+    (
+        "vector-set!",
+        Mark::Reserved(Word::Operator(PrimOp::VectorSet)),
+    ),
+    ("Int", Mark::Free(Some(TypeWord::Int))),
+    ("lambdas", Mark::Free(None)),
+    ("int", Mark::Free(None)),
+];
+
 #[test]
 fn symbols_are_told_apart(rt: HostRuntime) {
-    let table: [(&[u8], Mark); 8] = [
-        (b"lambda", Mark::Reserved(Word::Lambda)),
-        (b"->", Mark::Reserved(Word::Arrow)),
-        (b"read-int", Mark::Reserved(Word::Operator(PrimOp::ReadInt))),
-        (b"%%", Mark::Reserved(Word::Operator(PrimOp::Rem))),
-        (
-            b"vector-set!",
-            Mark::Reserved(Word::Operator(PrimOp::VectorSet)),
-        ),
-        (b"Int", Mark::Free(Some(TypeWord::Int))),
-        (b"lambdas", Mark::Free(None)),
-        (b"int", Mark::Free(None)),
-    ];
-    for (text, mark) in table {
-        assert!(rt; mark_of(text) == mark);
+    for (text, mark) in MARKS {
+        assert!(rt; mark_of(text.as_bytes()) == *mark);
     }
 }
 
