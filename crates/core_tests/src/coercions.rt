@@ -8,62 +8,67 @@ use core_calc::terms::{Core, CoreList, VarId};
 use core_calc::typing::typed;
 use grift_base::lists::OutOfMemory;
 use grift_base::operators::PrimOp;
+use grift_base::places::TypeId;
 use std::alloc::Global;
-use std::test::Fail;
+use std::process::Abort;
 use type_graph::tables::TypeTable;
 
 // The sum of two integers that come out of Dyn by equal casts.
-fn equal_casts(alloc: Global) -> Result<Core, OutOfMemory> {
+fn equal_casts(rt: &impl Abort, alloc: Global) -> Core {
     let mut operands = CoreList::new();
     for n in [1, 2] {
-        let inner = cast(alloc, Core::Int(n), INT, DYN, 0)?;
-        operands.push_front(alloc, cast(alloc, inner, DYN, INT, 1)?)?;
+        let inner = cast(rt, alloc, Core::Int(n), INT, DYN, 0);
+        operands
+            .push_front(alloc, cast(rt, alloc, inner, DYN, INT, 1))
+            .expect(rt, "memory");
     }
-    Ok(Core::Prim(PrimOp::Add, operands))
+    Core::Prim(PrimOp::Add, operands)
 }
 
 // (let ([x : Dyn 5]) ((: (lambda (y) y) (Int -> Int)) (: x Int)))
-fn identity_called(alloc: Global) -> Result<Core, OutOfMemory> {
+fn identity_called(rt: &impl Abort, alloc: Global) -> Core {
     let x = VarId(0);
     let function = cast(
+        rt,
         alloc,
-        identity(alloc, VarId(1), DYN_TO_DYN)?,
+        identity(rt, alloc, VarId(1), DYN_TO_DYN),
         DYN_TO_DYN,
         INT_TO_INT,
         1,
-    )?;
-    let argument = cast(alloc, Core::Var(x), DYN, INT, 2)?;
-    let body = Core::Call(boxed(alloc, function)?, one(alloc, argument)?);
-    let value = cast(alloc, Core::Int(5), INT, DYN, 0)?;
-    let_one(alloc, x, value, body)
+    );
+    let argument = cast(rt, alloc, Core::Var(x), DYN, INT, 2);
+    let body = Core::Call(boxed(rt, alloc, function), one(rt, alloc, argument));
+    let value = cast(rt, alloc, Core::Int(5), INT, DYN, 0);
+    let_one(rt, alloc, x, value, body)
 }
 
 // A term of some type with its casts.
-fn made(alloc: Global, types: &TypeTable, core: &Core) -> Result<CoerProgram, Fail> {
-    if typed(alloc, core, types)?.is_none() {
-        return Err(Fail::from("no program term"));
+fn made(rt: &impl Abort, alloc: Global, types: &TypeTable, core: &Core) -> CoerProgram {
+    match typed(alloc, core, types) {
+        Ok(Some(_)) => to_coercions(alloc, core, types).expect(rt, "memory"),
+        Ok(None) => panic!(rt; "no program term"),
+        Err(OutOfMemory) => panic!(rt; "no memory"),
     }
-    Ok(to_coercions(alloc, core, types)?)
+}
+
+// How many rows the casts of a term have, how high the tallest is, and of what type the term is.
+fn rows_of(rt: &impl Abort, alloc: Global, core: &Core) -> (u64, u32, TypeId) {
+    let types = sample_types(rt, alloc);
+    let program = made(rt, alloc, &types, core);
+    (program.casts.len(), program.tallest, program.answer)
 }
 
 #[test]
-fn equal_casts_are_one_row(rt: HostRuntime) -> Result<(), Fail> {
-    let alloc = rt.alloc();
-    let types = sample_types(alloc)?;
-    let core = equal_casts(alloc)?;
-    let program = made(alloc, &types, &core)?;
-    assert!(rt; program.casts.len() == 2);
-    Ok(())
+fn equal_casts_are_one_row(rt: HostRuntime) {
+    let core = equal_casts(&rt, rt.alloc());
+    let (rows, _tallest, _answer) = rows_of(&rt, rt.alloc(), &core);
+    assert!(rt; rows == 2);
 }
 
 // Three casts, of which that of the function is the tallest. With `--fail-alloc` each allocation fails in turn, and the
 // test then ends in want of memory.
 #[test]
-fn a_program_has_its_rows_height_and_type(rt: HostRuntime) -> Result<(), Fail> {
-    let alloc = rt.alloc();
-    let types = sample_types(alloc)?;
-    let core = identity_called(alloc)?;
-    let program = made(alloc, &types, &core)?;
-    assert!(rt; (program.casts.len(), program.tallest, program.answer) == (3, 1, INT));
-    Ok(())
+fn a_program_has_its_rows_height_and_type(rt: HostRuntime) {
+    let core = identity_called(&rt, rt.alloc());
+    assert!(rt; rows_of(&rt, rt.alloc(), &core) == (3, 1, INT));
 }

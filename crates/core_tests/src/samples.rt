@@ -4,7 +4,7 @@ use core_calc::terms::{Core, CoreBinding, CoreBindings, CoreList, VarId, VarIds}
 use grift_base::lists::OutOfMemory;
 use grift_base::places::{LabelId, TypeId};
 use std::alloc::Global;
-use std::test::Fail;
+use std::process::Abort;
 use type_graph::rows::{Row, TypeIds};
 use type_graph::tables::TypeTable;
 
@@ -21,68 +21,84 @@ pub(crate) const DYN_TO_DYN: TypeId = TypeId(4);
 pub(crate) const PAIR: TypeId = TypeId(5);
 
 // Puts a row into a table that it fits.
-fn put(types: &mut TypeTable, row: Row) -> Result<TypeId, Fail> {
-    if !types.fits(&row) {
-        return Err(Fail::from("the row does not fit"));
-    }
-    Ok(types.intern(row)?)
+fn put(rt: &impl Abort, types: &mut TypeTable, row: Row) {
+    assert!(rt; types.fits(&row));
+    types.intern(row).expect(rt, "memory");
+}
+
+// Puts the type of functions from a type to the same.
+fn put_function(rt: &impl Abort, alloc: Global, types: &mut TypeTable, ty: TypeId) {
+    let parameters = TypeIds::from_slice(alloc, &[ty]).expect(rt, "memory");
+    put(rt, types, Row::Fun(parameters, ty));
+}
+
+// Puts the type of pairs of an integer and a truth value.
+fn put_pair(rt: &impl Abort, alloc: Global, types: &mut TypeTable) {
+    let parts = TypeIds::from_slice(alloc, &[INT, BOOL]).expect(rt, "memory");
+    put(rt, types, Row::Tuple(parts));
 }
 
 // The types that the tests name by their places.
-pub(crate) fn sample_types(alloc: Global) -> Result<TypeTable, Fail> {
-    let mut types = TypeTable::new(alloc)?;
-    for row in [Row::Int, Row::Bool, Row::Dyn] {
-        put(&mut types, row)?;
-    }
-    for ty in [INT, DYN] {
-        let parameters = TypeIds::from_slice(alloc, &[ty])?;
-        put(&mut types, Row::Fun(parameters, ty))?;
-    }
-    let parts = TypeIds::from_slice(alloc, &[INT, BOOL])?;
-    put(&mut types, Row::Tuple(parts))?;
-    Ok(types)
+pub(crate) fn sample_types(rt: &impl Abort, alloc: Global) -> TypeTable {
+    let mut types = TypeTable::new(alloc).expect(rt, "memory");
+    put(rt, &mut types, Row::Int);
+    put(rt, &mut types, Row::Bool);
+    put(rt, &mut types, Row::Dyn);
+    put_function(rt, alloc, &mut types, INT);
+    put_function(rt, alloc, &mut types, DYN);
+    put_pair(rt, alloc, &mut types);
+    types
 }
 
-pub(crate) fn boxed(alloc: Global, term: Core) -> Result<Box<Core>, OutOfMemory> {
+// A term in a box, if there is memory for it.
+fn put_in_box(alloc: Global, term: Core) -> Result<Box<Core>, OutOfMemory> {
     Ok(Box::new(alloc, term)?)
 }
 
-pub(crate) fn one(alloc: Global, term: Core) -> Result<CoreList, OutOfMemory> {
-    let mut terms = CoreList::new();
-    terms.push_front(alloc, term)?;
-    Ok(terms)
+pub(crate) fn boxed(rt: &impl Abort, alloc: Global, term: Core) -> Box<Core> {
+    put_in_box(alloc, term).expect(rt, "memory")
 }
 
-pub(crate) fn two(alloc: Global, first: Core, second: Core) -> Result<CoreList, OutOfMemory> {
-    let mut terms = one(alloc, second)?;
-    terms.push_front(alloc, first)?;
-    Ok(terms)
+pub(crate) fn one(rt: &impl Abort, alloc: Global, term: Core) -> CoreList {
+    let mut terms = CoreList::new();
+    terms.push_front(alloc, term).expect(rt, "memory");
+    terms
+}
+
+pub(crate) fn two(rt: &impl Abort, alloc: Global, first: Core, second: Core) -> CoreList {
+    let mut terms = one(rt, alloc, second);
+    terms.push_front(alloc, first).expect(rt, "memory");
+    terms
 }
 
 pub(crate) fn cast(
+    rt: &impl Abort,
     alloc: Global,
     term: Core,
     from: TypeId,
     to: TypeId,
     label: u32,
-) -> Result<Core, OutOfMemory> {
-    Ok(Core::Cast(boxed(alloc, term)?, from, to, LabelId(label)))
+) -> Core {
+    Core::Cast(boxed(rt, alloc, term), from, to, LabelId(label))
 }
 
 // The identity of this type.
-pub(crate) fn identity(alloc: Global, name: VarId, ty: TypeId) -> Result<Core, OutOfMemory> {
-    let params = VarIds::from_slice(alloc, &[name])?;
-    Ok(Core::Lambda(params, boxed(alloc, Core::Var(name))?, ty))
+pub(crate) fn identity(rt: &impl Abort, alloc: Global, name: VarId, ty: TypeId) -> Core {
+    let params = VarIds::from_slice(alloc, &[name]).expect(rt, "memory");
+    Core::Lambda(params, boxed(rt, alloc, Core::Var(name)), ty)
 }
 
 // `name` bound to a value in a body.
 pub(crate) fn let_one(
+    rt: &impl Abort,
     alloc: Global,
     name: VarId,
     value: Core,
     body: Core,
-) -> Result<Core, OutOfMemory> {
+) -> Core {
     let mut bindings = CoreBindings::new();
-    bindings.push_front(alloc, CoreBinding { name, value })?;
-    Ok(Core::Let(bindings, boxed(alloc, body)?))
+    bindings
+        .push_front(alloc, CoreBinding { name, value })
+        .expect(rt, "memory");
+    Core::Let(bindings, boxed(rt, alloc, body))
 }

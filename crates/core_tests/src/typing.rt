@@ -5,18 +5,17 @@ use crate::samples::{
 };
 use core_calc::terms::{Core, CoreList, GroupMember, GroupMembers, Value, VarId, VarIds};
 use core_calc::typing::typed;
-use grift_base::lists::OutOfMemory;
 use grift_base::operators::PrimOp;
 use grift_base::places::TypeId;
 use std::alloc::Global;
-use std::test::Fail;
+use std::process::Abort;
 
 const X: VarId = VarId(0);
 
 // The type of a term over the types of the samples.
-fn type_found(alloc: Global, core: &Core) -> Result<Option<TypeId>, Fail> {
-    let types = sample_types(alloc)?;
-    Ok(typed(alloc, core, &types)?)
+fn type_found(rt: &impl Abort, alloc: Global, core: &Core) -> Option<TypeId> {
+    let types = sample_types(rt, alloc);
+    typed(alloc, core, &types).expect(rt, "memory")
 }
 
 // Terms that have a type.
@@ -36,44 +35,50 @@ enum Good {
     Less,
 }
 
-fn good_term(alloc: Global, good: Good) -> Result<Core, OutOfMemory> {
+fn good_term(rt: &impl Abort, alloc: Global, good: Good) -> Core {
     match good {
         Good::OutOfDyn => {
-            let inner = cast(alloc, Core::Bool(true), BOOL, DYN, 0)?;
-            cast(alloc, inner, DYN, INT, 0)
+            let inner = cast(rt, alloc, Core::Bool(true), BOOL, DYN, 0);
+            cast(rt, alloc, inner, DYN, INT, 0)
         }
         Good::CallUnderLet => {
-            let function = boxed(alloc, identity(alloc, VarId(1), INT_TO_INT)?)?;
-            let call = Core::Call(function, one(alloc, Core::Var(X))?);
-            let_one(alloc, X, Core::Int(1), call)
+            let function = boxed(rt, alloc, identity(rt, alloc, VarId(1), INT_TO_INT));
+            let call = Core::Call(function, one(rt, alloc, Core::Var(X)));
+            let_one(rt, alloc, X, Core::Int(1), call)
         }
-        Good::Group => group(alloc),
-        Good::Pair => pair(alloc),
-        Good::Part => Ok(Core::Proj(boxed(alloc, pair(alloc)?)?, 1)),
-        Good::Less => Ok(Core::Prim(PrimOp::Lt, two(alloc, Core::Int(1), Core::Int(2))?)),
+        Good::Group => group(rt, alloc),
+        Good::Pair => pair(rt, alloc),
+        Good::Part => Core::Proj(boxed(rt, alloc, pair(rt, alloc)), 1),
+        Good::Less => Core::Prim(PrimOp::Lt, two(rt, alloc, Core::Int(1), Core::Int(2))),
     }
 }
 
-fn pair(alloc: Global) -> Result<Core, OutOfMemory> {
-    Ok(Core::Tuple(two(alloc, Core::Int(1), Core::Bool(true))?))
+fn pair(rt: &impl Abort, alloc: Global) -> Core {
+    Core::Tuple(two(rt, alloc, Core::Int(1), Core::Bool(true)))
 }
 
-fn group(alloc: Global) -> Result<Core, OutOfMemory> {
+fn group(rt: &impl Abort, alloc: Global) -> Core {
     let name = VarId(1);
-    let function = boxed(alloc, Core::Var(name))?;
+    let function = boxed(rt, alloc, Core::Var(name));
     let member = GroupMember {
         name,
-        params: VarIds::from_slice(alloc, &[X])?,
-        body: Core::Call(function, one(alloc, Core::Var(X))?),
+        params: VarIds::from_slice(alloc, &[X]).expect(rt, "memory"),
+        body: Core::Call(function, one(rt, alloc, Core::Var(X))),
         ty: INT_TO_INT,
     };
     let mut members = GroupMembers::new();
-    members.push_front(alloc, member)?;
-    Ok(Core::Group(members, boxed(alloc, Core::Var(name))?))
+    members.push_front(alloc, member).expect(rt, "memory");
+    Core::Group(members, boxed(rt, alloc, Core::Var(name)))
+}
+
+// Whether a term is of this type.
+fn has_type(rt: &impl Abort, alloc: Global, good: Good, ty: TypeId) -> bool {
+    let core = good_term(rt, alloc, good);
+    type_found(rt, alloc, &core) == Some(ty)
 }
 
 #[test]
-fn terms_have_types(rt: HostRuntime) -> Result<(), Fail> {
+fn terms_have_types(rt: HostRuntime) {
     for (sample, ty) in [
         (Good::OutOfDyn, INT),
         (Good::CallUnderLet, INT),
@@ -82,10 +87,8 @@ fn terms_have_types(rt: HostRuntime) -> Result<(), Fail> {
         (Good::Part, BOOL),
         (Good::Less, BOOL),
     ] {
-        let core = good_term(rt.alloc(), sample)?;
-        assert!(rt; type_found(rt.alloc(), &core)? == Some(ty), "{sample:?}");
+        assert!(rt; has_type(&rt, rt.alloc(), sample, ty), "{sample:?}");
     }
-    Ok(())
 }
 
 // Terms that have none.
@@ -106,48 +109,56 @@ enum Bad {
     TooManyParts,
 }
 
-fn bad_term(alloc: Global, bad: Bad) -> Result<Core, OutOfMemory> {
+fn bad_term(rt: &impl Abort, alloc: Global, bad: Bad) -> Core {
     match bad {
-        Bad::Unbound => Ok(Core::Var(X)),
+        Bad::Unbound => Core::Var(X),
         Bad::BoundTwice => {
-            let first = let_one(alloc, X, Core::Int(1), Core::Var(X))?;
-            let second = let_one(alloc, X, Core::Int(1), Core::Var(X))?;
-            Ok(Core::Seq(two(alloc, first, second)?))
+            let first = let_one(rt, alloc, X, Core::Int(1), Core::Var(X));
+            let second = let_one(rt, alloc, X, Core::Int(1), Core::Var(X));
+            Core::Seq(two(rt, alloc, first, second))
         }
         Bad::OutOfScope => {
-            let bound = let_one(alloc, X, Core::Int(1), Core::Var(X))?;
-            Ok(Core::Seq(two(alloc, bound, Core::Var(X))?))
+            let bound = let_one(rt, alloc, X, Core::Int(1), Core::Var(X));
+            Core::Seq(two(rt, alloc, bound, Core::Var(X)))
         }
         Bad::Entered => {
-            let function = boxed(alloc, identity(alloc, X, INT_TO_INT)?)?;
-            Ok(Core::Enter(function, one(alloc, Core::Int(1))?))
+            let function = boxed(rt, alloc, identity(rt, alloc, X, INT_TO_INT));
+            Core::Enter(function, one(rt, alloc, Core::Int(1)))
         }
-        Bad::Stored => Ok(Core::Value(Value::Int(1))),
+        Bad::Stored => Core::Value(Value::Int(1)),
         Bad::Branches => {
-            let on_true = boxed(alloc, Core::Int(1))?;
-            let on_false = boxed(alloc, Core::Bool(true))?;
-            Ok(Core::If(boxed(alloc, Core::Bool(true))?, on_true, on_false))
+            let on_true = boxed(rt, alloc, Core::Int(1));
+            let on_false = boxed(rt, alloc, Core::Bool(true));
+            Core::If(boxed(rt, alloc, Core::Bool(true)), on_true, on_false)
         }
-        Bad::FromAnotherType => cast(alloc, Core::Bool(true), INT, DYN, 0),
+        Bad::FromAnotherType => cast(rt, alloc, Core::Bool(true), INT, DYN, 0),
         Bad::TooFewArguments => {
-            let function = boxed(alloc, identity(alloc, X, INT_TO_INT)?)?;
-            Ok(Core::Call(function, CoreList::new()))
+            let function = boxed(rt, alloc, identity(rt, alloc, X, INT_TO_INT));
+            Core::Call(function, CoreList::new())
         }
-        Bad::NoSuchPart => Ok(Core::Proj(boxed(alloc, pair(alloc)?)?, 2)),
-        Bad::TooManyParts => nine(alloc),
+        Bad::NoSuchPart => Core::Proj(boxed(rt, alloc, pair(rt, alloc)), 2),
+        Bad::TooManyParts => nine(rt, alloc),
     }
 }
 
-fn nine(alloc: Global) -> Result<Core, OutOfMemory> {
+fn nine(rt: &impl Abort, alloc: Global) -> Core {
     let mut parts = CoreList::new();
     for number in 0..9 {
-        parts.push_front(alloc, Core::Int(number))?;
+        parts
+            .push_front(alloc, Core::Int(number))
+            .expect(rt, "memory");
     }
-    Ok(Core::Tuple(parts))
+    Core::Tuple(parts)
+}
+
+// Whether a term is of no type.
+fn has_none(rt: &impl Abort, alloc: Global, bad: Bad) -> bool {
+    let core = bad_term(rt, alloc, bad);
+    type_found(rt, alloc, &core) == None
 }
 
 #[test]
-fn other_terms_have_none(rt: HostRuntime) -> Result<(), Fail> {
+fn other_terms_have_none(rt: HostRuntime) {
     for sample in [
         Bad::Unbound,
         Bad::BoundTwice,
@@ -160,19 +171,24 @@ fn other_terms_have_none(rt: HostRuntime) -> Result<(), Fail> {
         Bad::NoSuchPart,
         Bad::TooManyParts,
     ] {
-        let core = bad_term(rt.alloc(), sample)?;
-        assert!(rt; type_found(rt.alloc(), &core)? == None, "{sample:?}");
+        assert!(rt; has_none(&rt, rt.alloc(), sample), "{sample:?}");
     }
-    Ok(())
+}
+
+// 131,072 truth values, and 1 behind them.
+fn long_sequence(rt: &impl Abort, alloc: Global) -> Core {
+    let mut terms = one(rt, alloc, Core::Int(1));
+    for _ in 0..131_072 {
+        terms
+            .push_front(alloc, Core::Bool(true))
+            .expect(rt, "memory");
+    }
+    Core::Seq(terms)
 }
 
 // A list is longer than the process's stack is deep.
 #[test]
-fn a_long_sequence_has_a_type(rt: HostRuntime) -> Result<(), Fail> {
-    let mut terms = one(rt.alloc(), Core::Int(1))?;
-    for _ in 0..131_072 {
-        terms.push_front(rt.alloc(), Core::Bool(true))?;
-    }
-    assert!(rt; type_found(rt.alloc(), &Core::Seq(terms))? == Some(INT));
-    Ok(())
+fn a_long_sequence_has_a_type(rt: HostRuntime) {
+    let core = long_sequence(&rt, rt.alloc());
+    assert!(rt; type_found(&rt, rt.alloc(), &core) == Some(INT));
 }
