@@ -13,6 +13,7 @@ use grift_base::lists::Text;
 use grift_base::places::{LabelId, LabelTable, Pos, TypeId};
 use grift_base::words::Statics;
 use std::alloc::Global;
+use std::process::Abort;
 use std::test::Fail;
 use type_graph::rows::Row;
 use type_graph::tables::TypeTable;
@@ -104,10 +105,10 @@ fn has_text(
 
 #[test]
 fn paths_have_texts(rt: HostRuntime) -> Result<(), Fail> {
-    let types = table_of(rt.alloc(), TYPES)?;
+    let types = table_of(&rt, rt.alloc(), TYPES);
     let mut labels = LabelTable::new(rt.alloc());
     for line in 1..3 {
-        labels.intern(Pos { line, col: 1 })?;
+        labels.intern(Pos { line, col: 1 }).expect(&rt, "memory");
     }
     for (path, text) in PATHS {
         assert!(rt;
@@ -119,14 +120,14 @@ fn paths_have_texts(rt: HostRuntime) -> Result<(), Fail> {
 }
 
 // Boxes of boxes of the first, the second and the third type, 300 deep.
-fn nested_boxes(types: &mut TypeTable) -> Result<[TypeId; 3], Fail> {
+fn nested_boxes(rt: &impl Abort, types: &mut TypeTable) -> [TypeId; 3] {
     let mut boxes = [TypeId(0), TypeId(1), TypeId(2)];
     for content in boxes.iter_mut() {
         for _ in 0..300 {
-            *content = put(types, Row::Ref(*content))?;
+            *content = put(rt, types, Row::Ref(*content));
         }
     }
-    Ok(boxes)
+    boxes
 }
 
 // How many nodes the casts from the first of these types to the second and from there to the third take, how high
@@ -156,9 +157,9 @@ fn composed(
 // Each level has two nodes, for both directions, though it is met twice: one for each way in.
 #[test]
 fn shared_coercions_take_few_nodes(rt: HostRuntime) -> Result<(), Fail> {
-    let mut types = table_of(rt.alloc(), &[Sample::Int, Sample::Dyn, Sample::Bool])?;
-    let path = nested_boxes(&mut types)?;
-    let mut table = CoercionTable::new(rt.alloc())?;
+    let mut types = table_of(&rt, rt.alloc(), &[Sample::Int, Sample::Dyn, Sample::Bool]);
+    let path = nested_boxes(&rt, &mut types);
+    let mut table = CoercionTable::new(rt.alloc()).expect(&rt, "memory");
     let (casts, height, all) = composed(rt.alloc(), &mut table, &types, path)?;
     assert!(rt;
         casts <= 4 * 301 && height == 300 && all <= casts + 8 * 300,
@@ -228,8 +229,8 @@ fn statics_of_casts(
 // Each cast has the address of its coercion, and 0 where that changes nothing; a cast that is put again has its number.
 #[test]
 fn statics_are_placed(rt: HostRuntime) -> Result<(), Fail> {
-    let types = table_of(rt.alloc(), TYPES)?;
-    let mut table = CoercionTable::new(rt.alloc())?;
+    let types = table_of(&rt, rt.alloc(), TYPES);
+    let mut table = CoercionTable::new(rt.alloc()).expect(&rt, "memory");
     let mut casts = CastRows::new(rt.alloc());
     let statics = statics_of_casts(rt.alloc(), &mut table, &types, &mut casts)?;
     assert!(rt; casts.len() == 3 && statics.cast_at.as_slice() == [65_784, 65_832, 0].as_slice());

@@ -5,7 +5,7 @@ use consistency::blends::blend;
 use consistency::checks::{consistent, same_head};
 use grift_base::places::TypeId;
 use std::alloc::Global;
-use std::test::Fail;
+use std::process::Abort;
 use type_graph::rows::{Row, TypeIds};
 use type_graph::tables::TypeTable;
 
@@ -67,50 +67,60 @@ const PAIRS: &[(u32, u32, bool, Option<u32>)] = &[
 
 // Whether two types have one head, and their blend.
 fn related(
+    rt: &impl Abort,
     alloc: Global,
     types: &mut TypeTable,
     a: TypeId,
     b: TypeId,
-) -> Result<(bool, Option<u32>), Fail> {
-    if a.0 >= types.len() || b.0 >= types.len() {
-        return Err(Fail::from("no type is there"));
-    }
+) -> (bool, Option<u32>) {
+    assert!(rt; a.0 < types.len() && b.0 < types.len());
     let head = same_head(types, a, b);
-    if !consistent(alloc, types, a, b)? {
-        return Ok((head, None));
+    if !consistent(alloc, types, a, b).expect(rt, "memory") {
+        return (head, None);
     }
-    let both = blend(alloc, types, a, b)?;
-    Ok((head, Some(both.0)))
+    let both = blend(alloc, types, a, b).expect(rt, "memory");
+    (head, Some(both.0))
+}
+
+// What two types are, in one order and in the other.
+fn both_ways(
+    rt: &impl Abort,
+    alloc: Global,
+    types: &mut TypeTable,
+    a: u32,
+    b: u32,
+) -> [(bool, Option<u32>); 2] {
+    let there = related(rt, alloc, types, TypeId(a), TypeId(b));
+    [there, related(rt, alloc, types, TypeId(b), TypeId(a))]
 }
 
 #[test]
-fn types_are_compared_and_blended(rt: HostRuntime) -> Result<(), Fail> {
-    let mut types = table_of(rt.alloc(), TYPES)?;
+fn types_are_compared_and_blended(rt: HostRuntime) {
+    let mut types = table_of(&rt, rt.alloc(), TYPES);
     for (a, b, head, both) in PAIRS {
-        let there = related(rt.alloc(), &mut types, TypeId(*a), TypeId(*b))?;
-        let back = related(rt.alloc(), &mut types, TypeId(*b), TypeId(*a))?;
-        assert!(rt; [there, back] == [(*head, *both); 2], "{a} and {b}");
+        assert!(rt;
+            both_ways(&rt, rt.alloc(), &mut types, *a, *b) == [(*head, *both); 2],
+            "{a} and {b}"
+        );
     }
-    Ok(())
 }
 
 // The pair of this type with itself, the pair of that with itself, and so on forty times.
-fn pairs_of_pairs(alloc: Global, types: &mut TypeTable, part: u32) -> Result<TypeId, Fail> {
+fn pairs_of_pairs(rt: &impl Abort, alloc: Global, types: &mut TypeTable, part: u32) -> TypeId {
     let mut pair = TypeId(part);
     for _ in 0..40 {
-        let parts = TypeIds::from_slice(alloc, &[pair, pair])?;
-        pair = put(types, Row::Tuple(parts))?;
+        let parts = TypeIds::from_slice(alloc, &[pair, pair]).expect(rt, "memory");
+        pair = put(rt, types, Row::Tuple(parts));
     }
-    Ok(pair)
+    pair
 }
 
 // Two types of forty shared rows each, which are trees of 2 to the 41 leaves, have a blend of forty rows more.
 #[test]
-fn types_of_shared_rows_take_no_time(rt: HostRuntime) -> Result<(), Fail> {
-    let mut types = table_of(rt.alloc(), TYPES)?;
-    let first = pairs_of_pairs(rt.alloc(), &mut types, FROM_INT)?;
-    let second = pairs_of_pairs(rt.alloc(), &mut types, TO_BOOL)?;
-    let both = related(rt.alloc(), &mut types, first, second)?;
+fn types_of_shared_rows_take_no_time(rt: HostRuntime) {
+    let mut types = table_of(&rt, rt.alloc(), TYPES);
+    let first = pairs_of_pairs(&rt, rt.alloc(), &mut types, FROM_INT);
+    let second = pairs_of_pairs(&rt, rt.alloc(), &mut types, TO_BOOL);
+    let both = related(&rt, rt.alloc(), &mut types, first, second);
     assert!(rt; (both, types.len()) == ((true, Some(132)), 133));
-    Ok(())
 }

@@ -2,7 +2,7 @@
 
 use grift_base::places::TypeId;
 use std::alloc::Global;
-use std::test::Fail;
+use std::process::Abort;
 use type_graph::rows::{Row, TypeIds};
 use type_graph::tables::TypeTable;
 
@@ -20,41 +20,39 @@ pub(crate) enum Sample {
 }
 
 // The types with these places.
-fn ids(alloc: Global, places: &[u32]) -> Result<TypeIds, Fail> {
+fn ids(rt: &impl Abort, alloc: Global, places: &[u32]) -> TypeIds {
     let mut ids = TypeIds::new(alloc);
     for place in places {
-        ids.push(TypeId(*place))?;
+        ids.push(TypeId(*place)).expect(rt, "memory");
     }
-    Ok(ids)
+    ids
 }
 
 // The row that a sample tells.
-pub(crate) fn row_of(alloc: Global, sample: Sample) -> Result<Row, Fail> {
+pub(crate) fn row_of(rt: &impl Abort, alloc: Global, sample: Sample) -> Row {
     match sample {
-        Sample::Int => Ok(Row::Int),
-        Sample::Bool => Ok(Row::Bool),
-        Sample::Unit => Ok(Row::Unit),
-        Sample::Dyn => Ok(Row::Dyn),
-        Sample::Box(content) => Ok(Row::Ref(TypeId(content))),
-        Sample::Vector(content) => Ok(Row::Vect(TypeId(content))),
-        Sample::Function(parameters, to) => Ok(Row::Fun(ids(alloc, parameters)?, TypeId(to))),
-        Sample::Tuple(parts) => Ok(Row::Tuple(ids(alloc, parts)?)),
+        Sample::Int => Row::Int,
+        Sample::Bool => Row::Bool,
+        Sample::Unit => Row::Unit,
+        Sample::Dyn => Row::Dyn,
+        Sample::Box(content) => Row::Ref(TypeId(content)),
+        Sample::Vector(content) => Row::Vect(TypeId(content)),
+        Sample::Function(parameters, to) => Row::Fun(ids(rt, alloc, parameters), TypeId(to)),
+        Sample::Tuple(parts) => Row::Tuple(ids(rt, alloc, parts)),
     }
 }
 
 // Puts a row into a table that it fits.
-pub(crate) fn put(types: &mut TypeTable, row: Row) -> Result<TypeId, Fail> {
-    if !types.fits(&row) {
-        return Err(Fail::from("the row does not fit"));
-    }
-    Ok(types.intern(row)?)
+pub(crate) fn put(rt: &impl Abort, types: &mut TypeTable, row: Row) -> TypeId {
+    assert!(rt; types.fits(&row));
+    types.intern(row).expect(rt, "memory")
 }
 
 // A table of these rows.
-pub(crate) fn table_of(alloc: Global, samples: &[Sample]) -> Result<TypeTable, Fail> {
-    let mut types = TypeTable::new(alloc)?;
+pub(crate) fn table_of(rt: &impl Abort, alloc: Global, samples: &[Sample]) -> TypeTable {
+    let mut types = TypeTable::new(alloc).expect(rt, "memory");
     for sample in samples {
-        put(&mut types, row_of(alloc, *sample)?)?;
+        put(rt, &mut types, row_of(rt, alloc, *sample));
     }
-    Ok(types)
+    types
 }

@@ -2,7 +2,7 @@
 
 use crate::samples::{Sample, put, row_of, table_of};
 use std::alloc::Global;
-use std::test::Fail;
+use std::process::Abort;
 use type_graph::tables::TypeTable;
 use type_graph::texts::show_type;
 
@@ -82,47 +82,54 @@ const TUPLES: &[(Sample, u32, u64)] = &[
 ];
 
 // Puts a row, and tells its place, height and size.
-fn measured(alloc: Global, types: &mut TypeTable, sample: Sample) -> Result<(u32, u32, u64), Fail> {
-    let row = row_of(alloc, sample)?;
-    let t = put(types, row)?;
-    if t.0 >= types.len() {
-        return Err(Fail::from("no type is there"));
-    }
-    Ok((t.0, types.height(t), types.size(t)))
+fn measured(
+    rt: &impl Abort,
+    alloc: Global,
+    types: &mut TypeTable,
+    sample: Sample,
+) -> (u32, u32, u64) {
+    let t = put(rt, types, row_of(rt, alloc, sample));
+    assert!(rt; t.0 < types.len());
+    (t.0, types.height(t), types.size(t))
 }
 
 // Whether a type is as it is told, at a place where it stands.
-fn is_told(alloc: Global, types: &TypeTable, told: &Told) -> Result<bool, Fail> {
-    let row = row_of(alloc, told.sample)?;
+fn is_told(rt: &impl Abort, alloc: Global, types: &TypeTable, told: &Told) -> bool {
+    let row = row_of(rt, alloc, told.sample);
     let Some(t) = types.place_of(&row) else {
-        return Ok(false);
+        return false;
     };
     if t.0 >= types.len() || *types.row(t) != row || !types.same(t, t) {
-        return Ok(false);
+        return false;
     }
-    Ok(show_type(alloc, types, t)?.as_slice() == told.text.as_bytes())
+    show_type(alloc, types, t).expect(rt, "memory").as_slice() == told.text.as_bytes()
+}
+
+// Each row stands in the order of the table, and is as it is told.
+fn are_told(rt: &impl Abort, alloc: Global, types: &mut TypeTable) {
+    for (place, told) in TYPES.iter().enumerate() {
+        let (t, height, size) = measured(rt, alloc, types, told.sample);
+        let is = (t as usize, height, size) == (place, told.height, told.size);
+        assert!(rt; is && is_told(rt, alloc, types, told), "{}", told.text);
+    }
+}
+
+// Each tuple has its height and its size.
+fn tuples_are_told(rt: &impl Abort, alloc: Global, types: &mut TypeTable) {
+    for (sample, height, size) in TUPLES {
+        let (_place, high, nodes) = measured(rt, alloc, types, *sample);
+        assert!(rt; (high, nodes) == (*height, *size), "{height}");
+    }
 }
 
 // A row that is put again keeps its place.
 #[test]
-fn types_stand_once_and_are_written(rt: HostRuntime) -> Result<(), Fail> {
-    let mut types = TypeTable::new(rt.alloc())?;
-    for round in 0..2 {
-        for (place, told) in TYPES.iter().enumerate() {
-            let (t, height, size) = measured(rt.alloc(), &mut types, told.sample)?;
-            let is = (t as usize, height, size) == (place, told.height, told.size);
-            assert!(rt;
-                is && is_told(rt.alloc(), &types, told)?,
-                "{round}: {}",
-                told.text
-            );
-        }
+fn types_stand_once_and_are_written(rt: HostRuntime) {
+    let mut types = TypeTable::new(rt.alloc()).expect(&rt, "memory");
+    for _ in 0..2 {
+        are_told(&rt, rt.alloc(), &mut types);
     }
-    for (sample, height, size) in TUPLES {
-        let (_place, high, nodes) = measured(rt.alloc(), &mut types, *sample)?;
-        assert!(rt; (high, nodes) == (*height, *size), "{height}");
-    }
-    Ok(())
+    tuples_are_told(&rt, rt.alloc(), &mut types);
 }
 
 // Functions and tuples of so many parts, and whether they fit.
@@ -139,11 +146,9 @@ const WIDTHS: &[(Sample, bool)] = &[
 ];
 
 #[test]
-fn rows_that_do_not_fit_are_told(rt: HostRuntime) -> Result<(), Fail> {
-    let types = table_of(rt.alloc(), &[Sample::Int])?;
+fn rows_that_do_not_fit_are_told(rt: HostRuntime) {
+    let types = table_of(&rt, rt.alloc(), &[Sample::Int]);
     for (sample, fits) in WIDTHS {
-        let row = row_of(rt.alloc(), *sample)?;
-        assert!(rt; types.fits(&row) == *fits);
+        assert!(rt; types.fits(&row_of(&rt, rt.alloc(), *sample)) == *fits);
     }
-    Ok(())
 }
