@@ -11,6 +11,7 @@ use grift_base::operators::PrimOp;
 use grift_base::places::LabelId;
 use grift_base::verdicts::{Answer, AnswerKind, Trap};
 use std::alloc::Global;
+use std::process::Abort;
 
 // What a run has come to.
 #[derive(Clone, Copy)]
@@ -41,11 +42,9 @@ impl End {
 struct Run(&'static [Part], u64, End);
 
 impl Row for Run {
-    fn holds(&self, alloc: Global) -> bool {
-        match term_of(alloc, self.0) {
-            Some(core) => comes_to(alloc, &core, self.1, self.2.stepped()),
-            None => false,
-        }
+    fn holds(&self, rt: &impl Abort, alloc: Global) -> bool {
+        let core = term_of(rt, alloc, self.0);
+        comes_to(rt, alloc, &core, self.1, self.2.stepped())
     }
 }
 
@@ -90,6 +89,11 @@ const SUMS: &[Run] = &[
         End::Answer(AnswerKind::Bool, 1),
     ),
 ];
+
+#[test]
+fn runs_come_to_their_ends(rt: HostRuntime) {
+    each_holds(&rt, rt.alloc(), SUMS);
+}
 
 // A choice, a sequence, a function, and names that are bound again.
 const FORMS: &[Run] = &[
@@ -146,6 +150,11 @@ const FORMS: &[Run] = &[
     ),
 ];
 
+#[test]
+fn other_forms_run(rt: HostRuntime) {
+    each_holds(&rt, rt.alloc(), FORMS);
+}
+
 // A truth value that is cast into Dyn and out of it to Int.
 const CAST_TWICE: &[Part] = &[
     Part::Bool(true),
@@ -159,6 +168,11 @@ const CASTS: &[Run] = &[
     Run(CAST_TWICE, 3, End::Blame(P)),
     Run(CAST_TWICE, 9, End::Blame(P)),
 ];
+
+#[test]
+fn casts_blame(rt: HostRuntime) {
+    each_holds(&rt, rt.alloc(), CASTS);
+}
 
 // A function that is wrapped, and called with a value that its type has or has not.
 const WRAPPED_FUNCTIONS: &[Run] = &[
@@ -191,6 +205,11 @@ const WRAPPED_FUNCTIONS: &[Run] = &[
         End::Int(5),
     ),
 ];
+
+#[test]
+fn wrapped_functions_are_called(rt: HostRuntime) {
+    each_holds(&rt, rt.alloc(), WRAPPED_FUNCTIONS);
+}
 
 // A box that is seen through a wrapper: what is written is cast, and stands in the box then.
 const BOXES: &[Run] = &[
@@ -233,6 +252,11 @@ const BOXES: &[Run] = &[
         End::Int(7),
     ),
 ];
+
+#[test]
+fn boxes_are_seen_through_wrappers(rt: HostRuntime) {
+    each_holds(&rt, rt.alloc(), BOXES);
+}
 
 // Reads of a vector of three 9s, and vectors that are seen through a wrapper: the index is tested before the written
 // value is cast.
@@ -313,6 +337,11 @@ const VECTORS: &[Run] = &[
     ),
 ];
 
+#[test]
+fn vectors_are_seen_through_wrappers(rt: HostRuntime) {
+    each_holds(&rt, rt.alloc(), VECTORS);
+}
+
 // Parts of a pair: bare, through a wrapper, and of Dyn. A sequence of no term does not go on.
 const PARTS: &[Run] = &[
     Run(
@@ -367,12 +396,6 @@ const PARTS: &[Run] = &[
 ];
 
 #[test]
-fn runs_come_to_their_ends(rt: HostRuntime) {
-    each_holds(&rt, rt.alloc(), SUMS);
-    each_holds(&rt, rt.alloc(), FORMS);
-    each_holds(&rt, rt.alloc(), CASTS);
-    each_holds(&rt, rt.alloc(), WRAPPED_FUNCTIONS);
-    each_holds(&rt, rt.alloc(), BOXES);
-    each_holds(&rt, rt.alloc(), VECTORS);
+fn parts_are_taken(rt: HostRuntime) {
     each_holds(&rt, rt.alloc(), PARTS);
 }

@@ -6,6 +6,7 @@ use core_calc::terms::{Core, VarId};
 use grift_base::lists::Bytes;
 use grift_base::places::{LabelId, TypeId};
 use std::alloc::Global;
+use std::process::Abort;
 use type_graph::rows::{Row, TypeIds};
 use type_graph::tables::TypeTable;
 
@@ -39,81 +40,89 @@ pub(crate) const X: VarId = VarId(0);
 
 pub(crate) const F: VarId = VarId(1);
 
-// Puts a row into a table. None where it does not fit, or no memory is left.
-fn put(types: &mut TypeTable, row: Row) -> Option<()> {
-    if !types.fits(&row) {
-        return None;
-    }
-    types.intern(row).ok()?;
-    Some(())
+// Puts a row into a table that it fits.
+fn put(rt: &impl Abort, types: &mut TypeTable, row: Row) {
+    assert!(rt; types.fits(&row));
+    types.intern(row).expect(rt, "memory");
 }
 
 // Puts the type of functions from this type to Int.
-fn put_function(alloc: Global, types: &mut TypeTable, from: TypeId) -> Option<()> {
-    let parameters = TypeIds::from_slice(alloc, &[from]).ok()?;
-    put(types, Row::Fun(parameters, INT))
+fn put_function(rt: &impl Abort, alloc: Global, types: &mut TypeTable, from: TypeId) {
+    let parameters = TypeIds::from_slice(alloc, &[from]).expect(rt, "memory");
+    put(rt, types, Row::Fun(parameters, INT));
 }
 
 // Puts the type of pairs of these types.
-fn put_pair(alloc: Global, types: &mut TypeTable, first: TypeId, second: TypeId) -> Option<()> {
-    let parts = TypeIds::from_slice(alloc, &[first, second]).ok()?;
-    put(types, Row::Tuple(parts))
+fn put_pair(rt: &impl Abort, alloc: Global, types: &mut TypeTable, first: TypeId, second: TypeId) {
+    let parts = TypeIds::from_slice(alloc, &[first, second]).expect(rt, "memory");
+    put(rt, types, Row::Tuple(parts));
 }
 
 // Puts the types that the tests name by their places.
-fn put_types(alloc: Global, types: &mut TypeTable) -> Option<()> {
-    put(types, Row::Int)?;
-    put(types, Row::Bool)?;
-    put(types, Row::Dyn)?;
-    put_function(alloc, types, INT)?;
-    put_function(alloc, types, DYN)?;
-    put(types, Row::Ref(INT))?;
-    put(types, Row::Ref(DYN))?;
-    put(types, Row::Vect(INT))?;
-    put(types, Row::Vect(DYN))?;
-    put_pair(alloc, types, INT, BOOL)?;
-    put_pair(alloc, types, DYN, DYN)
+fn put_types(rt: &impl Abort, alloc: Global, types: &mut TypeTable) {
+    put(rt, types, Row::Int);
+    put(rt, types, Row::Bool);
+    put(rt, types, Row::Dyn);
+    put_function(rt, alloc, types, INT);
+    put_function(rt, alloc, types, DYN);
+    put(rt, types, Row::Ref(INT));
+    put(rt, types, Row::Ref(DYN));
+    put(rt, types, Row::Vect(INT));
+    put(rt, types, Row::Vect(DYN));
+    put_pair(rt, alloc, types, INT, BOOL);
+    put_pair(rt, alloc, types, DYN, DYN);
 }
 
 // What a run of a term has come to after so many steps, and what it has printed.
 fn ran_over(
+    rt: &impl Abort,
     alloc: Global,
     types: &TypeTable,
     core: &Core,
     input: Bytes,
     steps: u64,
-) -> Option<(Stepped, Bytes)> {
-    let mut state = start(alloc, core, input).ok()?;
-    let stepped = run(alloc, &mut state, types, steps).ok()?;
-    let output = Bytes::from_slice(alloc, state.world.output.as_slice()).ok()?;
-    Some((stepped, output))
+) -> (Stepped, Bytes) {
+    let mut state = start(alloc, core, input).expect(rt, "memory");
+    let stepped = run(alloc, &mut state, types, steps).expect(rt, "memory");
+    let output = Bytes::from_slice(alloc, state.world.output.as_slice());
+    (stepped, output.expect(rt, "memory"))
 }
 
 // The same over the types of the tests.
 pub(crate) fn ran(
+    rt: &impl Abort,
     alloc: Global,
     core: &Core,
     input: &[u8],
     steps: u64,
-) -> Option<(Stepped, Bytes)> {
-    let mut types = TypeTable::new(alloc).ok()?;
-    put_types(alloc, &mut types)?;
-    let input = Bytes::from_slice(alloc, input).ok()?;
-    ran_over(alloc, &types, core, input, steps)
+) -> (Stepped, Bytes) {
+    let mut types = TypeTable::new(alloc).expect(rt, "memory");
+    put_types(rt, alloc, &mut types);
+    let input = Bytes::from_slice(alloc, input).expect(rt, "memory");
+    ran_over(rt, alloc, &types, core, input, steps)
 }
 
 // Whether a run of a term comes to this in so many steps.
-pub(crate) fn comes_to(alloc: Global, core: &Core, steps: u64, wanted: Stepped) -> bool {
-    match ran(alloc, core, b"", steps) {
-        Some((stepped, _output)) => stepped == wanted,
-        None => false,
-    }
+pub(crate) fn comes_to(
+    rt: &impl Abort,
+    alloc: Global,
+    core: &Core,
+    steps: u64,
+    wanted: Stepped,
+) -> bool {
+    let (stepped, _output) = ran(rt, alloc, core, b"", steps);
+    stepped == wanted
 }
 
 // Whether it prints this in so many steps, with this input.
-pub(crate) fn prints(alloc: Global, core: &Core, input: &[u8], steps: u64, wanted: &[u8]) -> bool {
-    match ran(alloc, core, input, steps) {
-        Some((_stepped, output)) => output.as_slice() == wanted,
-        None => false,
-    }
+pub(crate) fn prints(
+    rt: &impl Abort,
+    alloc: Global,
+    core: &Core,
+    input: &[u8],
+    steps: u64,
+    wanted: &[u8],
+) -> bool {
+    let (_stepped, output) = ran(rt, alloc, core, input, steps);
+    output.as_slice() == wanted
 }

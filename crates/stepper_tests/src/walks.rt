@@ -8,6 +8,7 @@ use core_calc::terms::{Core, CoreList};
 use grift_base::operators::PrimOp;
 use grift_base::verdicts::{Answer, AnswerKind};
 use std::alloc::Global;
+use std::process::Abort;
 
 fn int(word: i64) -> Stepped {
     Stepped::Answer(Answer {
@@ -17,7 +18,7 @@ fn int(word: i64) -> Stepped {
 }
 
 // A function F that calls itself with less by one, down to 0, where it answers 7; its body is a call with n.
-fn counting(alloc: Global, n: i64) -> Option<Core> {
+fn counting(rt: &impl Abort, alloc: Global, n: i64) -> Core {
     let parts = [
         Part::Var(X),
         Part::Int(0),
@@ -34,7 +35,7 @@ fn counting(alloc: Global, n: i64) -> Option<Core> {
         Part::Call,
         Part::Group(F),
     ];
-    term_of(alloc, &parts)
+    term_of(rt, alloc, &parts)
 }
 
 // A number of calls, the step before the last, and the last one: five for each call but the last, which takes four, and
@@ -42,14 +43,10 @@ fn counting(alloc: Global, n: i64) -> Option<Core> {
 struct Counted(i64, u64, u64);
 
 impl Row for Counted {
-    fn holds(&self, alloc: Global) -> bool {
-        match counting(alloc, self.0) {
-            Some(core) => {
-                comes_to(alloc, &core, self.1, Stepped::More)
-                    && comes_to(alloc, &core, self.2, int(7))
-            }
-            None => false,
-        }
+    fn holds(&self, rt: &impl Abort, alloc: Global) -> bool {
+        let core = counting(rt, alloc, self.0);
+        comes_to(rt, alloc, &core, self.1, Stepped::More)
+            && comes_to(rt, alloc, &core, self.2, int(7))
     }
 }
 
@@ -64,44 +61,39 @@ fn loops_run_by_steps(rt: HostRuntime) {
     each_holds(&rt, rt.alloc(), COUNTED);
 }
 
-// Puts the name X 100,000 times into a list.
-fn put_names(alloc: Global, terms: &mut CoreList) -> Option<()> {
+// The name X 100,000 times.
+fn names(rt: &impl Abort, alloc: Global) -> CoreList {
+    let mut terms = CoreList::new();
     for _ in 0..100_000 {
-        terms.push_front(alloc, Core::Var(X)).ok()?;
+        terms.push_front(alloc, Core::Var(X)).expect(rt, "memory");
     }
-    Some(())
+    terms
 }
 
 // Puts 1, and a sequence of these names.
-fn put_wide(alloc: Global, made: &mut Vec<Core>) -> Option<()> {
-    let mut terms = CoreList::new();
-    put_names(alloc, &mut terms)?;
-    made.push(Core::Int(1)).ok()?;
-    made.push(Core::Seq(terms)).ok()
+fn put_wide(rt: &impl Abort, alloc: Global, made: &mut Vec<Core>) {
+    made.push(Core::Int(1)).expect(rt, "memory");
+    made.push(Core::Seq(names(rt, alloc))).expect(rt, "memory");
 }
 
 // The sequence, in which X is 1.
-fn wide(alloc: Global) -> Option<Core> {
+fn wide(rt: &impl Abort, alloc: Global) -> Core {
     let mut made = Vec::new(alloc);
-    put_wide(alloc, &mut made)?;
-    made_of(alloc, &mut made, Part::Let(X))
+    put_wide(rt, alloc, &mut made);
+    made_of(rt, alloc, &mut made, Part::Let(X))
 }
 
 // Whether it runs to its end in one step more than it has terms.
-fn wide_runs(alloc: Global) -> bool {
-    match wide(alloc) {
-        Some(core) => {
-            comes_to(alloc, &core, 100_000, Stepped::More)
-                && comes_to(alloc, &core, 100_001, int(1))
-        }
-        None => false,
-    }
+fn wide_runs(rt: &impl Abort, alloc: Global) -> bool {
+    let core = wide(rt, alloc);
+    comes_to(rt, alloc, &core, 100_000, Stepped::More)
+        && comes_to(rt, alloc, &core, 100_001, int(1))
 }
 
 // A name that is put into 100,000 places by one step, and a sequence of as many terms.
 #[test]
 fn wide_terms_run(rt: HostRuntime) {
-    assert!(rt; wide_runs(rt.alloc()));
+    assert!(rt; wide_runs(&rt, rt.alloc()));
 }
 
 // Prints the number that is read, and a new line.
@@ -117,11 +109,9 @@ const PRINTING: &[Part] = &[
 struct Printed(u64, &'static [u8]);
 
 impl Row for Printed {
-    fn holds(&self, alloc: Global) -> bool {
-        match term_of(alloc, PRINTING) {
-            Some(core) => prints(alloc, &core, b" -42 ", self.0, self.1),
-            None => false,
-        }
+    fn holds(&self, rt: &impl Abort, alloc: Global) -> bool {
+        let core = term_of(rt, alloc, PRINTING);
+        prints(rt, alloc, &core, b" -42 ", self.0, self.1)
     }
 }
 
