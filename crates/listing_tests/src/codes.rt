@@ -1,27 +1,70 @@
 // The code listings of images.
 
+use crate::readings::is_read;
 use assembler::image::{Image, read_image};
+use grift_base::lists::Text;
 use listing::code::code_text;
-use listing::reading::read_code_text;
 use std::alloc::Global;
-use std::test::Fail;
+use std::process::Abort;
 
 // An image with this code, and neither statics nor labels.
-fn image_of(alloc: Global, code: &[u32]) -> Result<Image, Fail> {
+fn image_of(rt: &impl Abort, alloc: Global, code: &[u32]) -> Image {
     let bytes = 4 * code.len() as u64;
     let mut image = Vec::new(alloc);
-    image.extend_from_slice(b"GRIFTRV1")?;
+    image.extend_from_slice(b"GRIFTRV1").expect(rt, "memory");
     for field in [64 + bytes, 0, bytes, 0, 0, 0, 0] {
-        image.extend_from_slice(&field.to_le_bytes())?;
+        image
+            .extend_from_slice(&field.to_le_bytes())
+            .expect(rt, "memory");
     }
     for word in code {
-        image.extend_from_slice(&word.to_le_bytes())?;
+        image
+            .extend_from_slice(&word.to_le_bytes())
+            .expect(rt, "memory");
     }
-    Ok(read_image(alloc, image.as_slice())?)
+    read_image(alloc, image.as_slice()).expect(rt, "an image")
 }
 
-// The words are those of LLVM's assembler, and their texts what it was given.
-static ASSEMBLED: [(u32, &str); 54] = [
+// The code listing of that.
+fn listing_of(rt: &impl Abort, alloc: Global, code: &[u32]) -> Text {
+    let image = image_of(rt, alloc, code);
+    code_text(alloc, &image).expect(rt, "memory")
+}
+
+// The words of rows.
+fn words_of(rt: &impl Abort, alloc: Global, rows: &[(u32, &str)]) -> Vec<u32> {
+    let mut code = Vec::new(alloc);
+    for (word, _text) in rows {
+        code.push(*word).expect(rt, "memory");
+    }
+    code
+}
+
+// The lines of rows, from the first address of memory on.
+fn lines_of(rt: &impl Abort, alloc: Global, rows: &[(u32, &str)]) -> String {
+    let mut lines = String::new(alloc);
+    let mut address = 0x10000u32;
+    for (word, text) in rows {
+        writeln!(lines, "{address:08x}: {word:08x} {text}").expect(rt, "memory");
+        address = address.wrapping_add(4);
+    }
+    lines
+}
+
+// The code listing of the words of rows.
+fn listing_of_rows(rt: &impl Abort, alloc: Global, rows: &[(u32, &str)]) -> Text {
+    listing_of(rt, alloc, words_of(rt, alloc, rows).as_slice())
+}
+
+// The words of rows are listed as their texts.
+fn are_written(rt: &impl Abort, alloc: Global, rows: &[(u32, &str)]) {
+    let text = listing_of_rows(rt, alloc, rows);
+    assert!(rt; text.as_slice() == lines_of(rt, alloc, rows).as_bytes());
+}
+
+// The words of these rows are those of LLVM's assembler, and their texts what it was given. A table has an even number
+// of them, since the code of an image has.
+const JUMPS_LOADS_AND_STORES: &[(u32, &str)] = &[
     (0xffffffb7, "lui x31, 1048575"),
     (0x00010397, "auipc x7, 16"),
     (0xffdff06f, "jal x0, -4"),
@@ -44,6 +87,14 @@ static ASSEMBLED: [(u32, &str); 54] = [
     (0x7ff01fa3, "sh x31, 2047(x0)"),
     (0x80322023, "sw x3, -2048(x4)"),
     (0x0020b423, "sd x2, 8(x1)"),
+];
+
+#[test]
+fn instructions_are_written_by_their_forms(rt: HostRuntime) {
+    are_written(&rt, rt.alloc(), JUMPS_LOADS_AND_STORES);
+}
+
+const OPERATIONS: &[(u32, &str)] = &[
     (0xffb10093, "addi x1, x2, -5"),
     (0x7ff32293, "slti x5, x6, 2047"),
     (0x80043393, "sltiu x7, x8, -2048"),
@@ -79,31 +130,18 @@ static ASSEMBLED: [(u32, &str); 54] = [
 ];
 
 #[test]
-fn instructions_are_written_by_their_forms(rt: HostRuntime) -> Result<(), Fail> {
-    let mut code = Vec::new(rt.alloc());
-    let mut lines = String::new(rt.alloc());
-    let mut address = 0x10000u32;
-    for (word, text) in &ASSEMBLED {
-        code.push(*word)?;
-        writeln!(lines, "{address:08x}: {word:08x} {text}")?;
-        address = address.wrapping_add(4);
-    }
-    let image = image_of(rt.alloc(), code.as_slice())?;
-    let text = code_text(rt.alloc(), &image)?;
-    assert!(rt; text.as_slice() == lines.as_bytes());
-    Ok(())
+fn operations_are_written_by_their_forms(rt: HostRuntime) {
+    are_written(&rt, rt.alloc(), OPERATIONS);
 }
+
+const TWO: &[u32] = &[0x02a00593, 0x00000073];
 
 // Two instructions at the first address of memory, and their words read back.
 #[test]
-fn a_small_image_is_listed_and_read_back(rt: HostRuntime) -> Result<(), Fail> {
-    let words: [u32; 2] = [0x02a00593, 0x00000073];
-    let image = image_of(rt.alloc(), &words)?;
-    let text = code_text(rt.alloc(), &image)?;
+fn a_small_image_is_listed_and_read_back(rt: HostRuntime) {
     let lines = b"00010000: 02a00593 addi x11, x0, 42\n00010004: 00000073 ecall\n";
-    assert!(rt; text.as_slice() == lines.as_slice());
-    let read = read_code_text(rt.alloc(), text.as_slice())?;
-    let found = read.ok_or("no listing")?;
-    assert!(rt; found.as_slice() == words.as_slice());
-    Ok(())
+    let text = listing_of(&rt, rt.alloc(), TWO);
+    assert!(rt;
+        text.as_slice() == lines.as_slice() && is_read(&rt, rt.alloc(), text.as_slice(), TWO)
+    );
 }
