@@ -302,7 +302,7 @@ const CHOICES_AND_TUPLES: &[(&str, &str)] = &[
 ];
 
 #[test]
-fn forms_behind_them_are_read(rt: HostRuntime) {
+fn choices_and_tuples_are_read(rt: HostRuntime) {
     are_shown(&rt, rt.alloc(), CHOICES_AND_TUPLES);
 }
 
