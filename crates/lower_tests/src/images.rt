@@ -6,13 +6,13 @@ ghost use Rattle.low_ir.specs.Closed.{is_closed};
 ghost use Rattle.low_ir.specs.Views.{procs_of};
 
 use flat_ir::programs::FlatProgram;
-use grift_base::lists::{Bytes, OutOfMemory};
+use grift_base::lists::Bytes;
 use grift_base::places::LabelTable;
 use grift_base::verdicts::{Answer, AnswerKind};
 use grift_base::words::{Statics, WordList};
 use grift_base::worlds::World;
 use low_ir::code::{LowCode, LowSource};
-use low_ir::programs::{LowProc, LowProgram};
+use low_ir::programs::{LowProc, LowProcs, LowProgram};
 use lower::lowering::lowered;
 use lower::served::{CastWay, CastWays, Served, Tag};
 use reg_assign::images::image_of;
@@ -20,6 +20,7 @@ use rv_emulator::flat::FlatRam;
 use rv_emulator::machine::Machine;
 use rv_emulator::stops::Stop;
 use std::alloc::Global;
+use std::process::Abort;
 use type_graph::rows::Row;
 
 // The number of the first procedure that serves, for programs of two procedures.
@@ -38,8 +39,8 @@ const WAYS: [CastWay; 5] = [
 ];
 
 // The procedures that serve, of which these programs call that of casts alone.
-fn served(alloc: Global) -> Result<Served, OutOfMemory> {
-    Ok(Served {
+fn served(rt: &impl Abort, alloc: Global) -> Served {
+    Served {
         cast: FIRST,
         project: FIRST + 1,
         apply: FIRST + 2,
@@ -49,66 +50,105 @@ fn served(alloc: Global) -> Result<Served, OutOfMemory> {
         multiply: FIRST + 6,
         divide: FIRST + 7,
         cast_at: WordList::new(alloc),
-        ways: CastWays::from_slice(alloc, &WAYS)?,
-    })
+        ways: CastWays::from_slice(alloc, &WAYS).expect(rt, "memory"),
+    }
 }
 
-// The program over words of a program of two procedures, with procedures that serve behind it, which answer 0.
-fn low_program(alloc: Global, flat: &FlatProgram, answer: &Row) -> Result<LowProgram, OutOfMemory> {
-    let mut procs = lowered(alloc, &served(alloc)?, flat, answer)?;
+// The procedures over words of a program of two procedures, with those that serve behind them, which answer 0.
+fn low_procs(rt: &impl Abort, alloc: Global, flat: &FlatProgram, answer: &Row) -> LowProcs {
+    let made = lowered(alloc, &served(rt, alloc), flat, answer);
+    let mut procs = made.expect(rt, "memory");
     for params in TAKEN {
-        procs.push(LowProc {
+        let pushed = procs.push(LowProc {
             params,
             words: params,
             code: LowCode::Return(LowSource::Number(0)),
-        })?;
+        });
+        pushed.expect(rt, "memory");
     }
-    Ok(LowProgram {
-        procs,
-        entry: 2,
-        statics: Statics::new(alloc),
-    })
+    procs
 }
 
-// What the image of a closed program over words comes to in a region and a stack of these sizes.
-pub(crate) fn runs(
+// The program with these procedures.
+fn low_program(rt: &impl Abort, alloc: Global, flat: &FlatProgram, answer: &Row) -> LowProgram {
+    LowProgram {
+        procs: low_procs(rt, alloc, flat, answer),
+        entry: 2,
+        statics: Statics::new(alloc),
+    }
+}
+
+// The machine of the image of a closed program over words at its start, in a region and a stack of these sizes.
+fn machine_of(
+    rt: &impl Abort,
     alloc: Global,
     low: &LowProgram,
     labels: &LabelTable,
     region: u64,
     stack: u64,
-) -> Result<Stop, OutOfMemory>
+) -> Machine<FlatRam>
     requires closed { IsTrue (is_closed (procs_of low.now.procs) low.now.entry) }
     requires region { IsRegionSize region }
     requires stack { IsStackSize stack }
 {
-    let image = image_of(alloc, low, labels)?;
+    let image = image_of(alloc, low, labels).expect(rt, "memory");
     let size = image.loaded().len() as u64 + region + stack;
-    let ram = FlatRam::new(alloc, size)?;
+    let ram = FlatRam::new(alloc, size).expect(rt, "memory");
     let world = World::new(alloc, Bytes::new(alloc));
-    let mut machine = Machine::load(alloc, &image, ram, region, stack, world)?;
-    Ok(machine.run(1_000_000_000))
+    Machine::load(alloc, &image, ram, region, stack, world).expect(rt, "memory")
 }
 
-// What a program of two procedures comes to in a region and a stack of these sizes; none where it isn't closed.
-pub(crate) fn comes_to(
+// What the image of a closed program over words comes to in a region and a stack of these sizes.
+pub(crate) fn runs(
+    rt: &impl Abort,
+    alloc: Global,
+    low: &LowProgram,
+    labels: &LabelTable,
+    region: u64,
+    stack: u64,
+) -> Stop
+    requires closed { IsTrue (is_closed (procs_of low.now.procs) low.now.entry) }
+    requires region { IsRegionSize region }
+    requires stack { IsStackSize stack }
+{
+    let mut machine = machine_of(rt, alloc, low, labels, region, stack);
+    machine.run(1_000_000_000)
+}
+
+// What a program of two procedures comes to in a region and a stack of these sizes.
+fn stop_of(
+    rt: &impl Abort,
     alloc: Global,
     flat: &FlatProgram,
     answer: &Row,
     region: u64,
     stack: u64,
-) -> Result<Option<Stop>, OutOfMemory>
+) -> Stop
     requires region { IsRegionSize region }
     requires stack { IsStackSize stack }
 {
-    let low = low_program(alloc, flat, answer)?;
-    if !flat.is_closed() || !low.is_closed() {
-        return Ok(None);
-    }
-    Ok(Some(runs(alloc, &low, &LabelTable::new(alloc), region, stack)?))
+    assert!(rt; flat.is_closed());
+    let low = low_program(rt, alloc, flat, answer);
+    assert!(rt; low.is_closed());
+    runs(rt, alloc, &low, &LabelTable::new(alloc), region, stack)
+}
+
+// The same of a program that nothing else needs.
+pub(crate) fn comes_to(
+    rt: &impl Abort,
+    alloc: Global,
+    flat: FlatProgram,
+    answer: &Row,
+    region: u64,
+    stack: u64,
+) -> Stop
+    requires region { IsRegionSize region }
+    requires stack { IsStackSize stack }
+{
+    stop_of(rt, alloc, &flat, answer, region, stack)
 }
 
 // The answer of a kind with this word.
-pub(crate) fn answer(kind: AnswerKind, word: i64) -> Option<Stop> {
-    Some(Stop::Ended(Answer { kind, word }))
+pub(crate) fn answer(kind: AnswerKind, word: i64) -> Stop {
+    Stop::Ended(Answer { kind, word })
 }

@@ -27,7 +27,6 @@ use rv_emulator::stops::Stop;
 use std::alloc::Global;
 use std::marker::Model;
 use std::process::Abort;
-use std::test::Fail;
 use type_graph::rows::{Row, TypeIds};
 use type_graph::tables::TypeTable;
 
@@ -196,22 +195,19 @@ fn are_there(table: &CoercionTable, casts: &CastRows) -> bool
 
 // The program over words of numbered procedures over a scheme, with casts whose coercions are there.
 fn low_of<S: Scheme>(
+    rt: &impl Abort,
     alloc: Global,
     flat: &FlatProgram,
     types: &TypeTable,
     table: &CoercionTable,
     casts: &CastRows,
     scheme: &S,
-) -> Result<LowProgram, Fail>
+) -> LowProgram
     requires { FitsTypes types.now table.now }
 {
-    if flat.answer.0 >= types.len() {
-        return Err(Fail::from("no type is there"));
-    }
-    if !are_there(table, casts) {
-        return Err(Fail::from("no coercion is there"));
-    }
-    Ok(lower_with(alloc, flat, types, casts, table, scheme)?)
+    assert!(rt; flat.answer.0 < types.len(), "no type is there");
+    assert!(rt; are_there(table, casts), "no coercion is there");
+    lower_with(alloc, flat, types, casts, table, scheme).expect(rt, "memory")
 }
 
 impl Tables {
@@ -240,11 +236,20 @@ impl Tables {
     // The program over words of numbered procedures, over a scheme.
     pub(crate) fn low_of<S: Scheme>(
         &self,
+        rt: &impl Abort,
         alloc: Global,
         flat: &FlatProgram,
         scheme: &S,
-    ) -> Result<LowProgram, Fail> {
-        low_of(alloc, flat, &self.types, &self.table, &self.casts, scheme)
+    ) -> LowProgram {
+        low_of(
+            rt,
+            alloc,
+            flat,
+            &self.types,
+            &self.table,
+            &self.casts,
+            scheme,
+        )
     }
 }
 
@@ -282,7 +287,7 @@ pub(crate) enum Turn {
 }
 
 // These operands.
-fn operands(rt: &impl Abort, alloc: Global, these: &[Operand]) -> Operands {
+pub(crate) fn operands(rt: &impl Abort, alloc: Global, these: &[Operand]) -> Operands {
     Operands::from_slice(alloc, these).expect(rt, "memory")
 }
 
@@ -303,7 +308,7 @@ pub(crate) fn given(rt: &impl Abort, alloc: Global, turn: &Turn) -> FlatBody {
 }
 
 // A body in a box, if there is memory for it.
-fn put_in_box(alloc: Global, body: FlatBody) -> Result<Box<FlatBody>, OutOfMemory> {
+pub(crate) fn put_in_box(alloc: Global, body: FlatBody) -> Result<Box<FlatBody>, OutOfMemory> {
     Ok(Box::new(alloc, body)?)
 }
 
@@ -579,43 +584,44 @@ pub(crate) fn wanted(end: &End) -> Stop {
     }
 }
 
-// What the image of a program comes to.
-fn stop_of(rt: &impl Abort, alloc: Global, row: &Program) -> Result<Stop, Fail> {
+// The program over words of a row.
+fn low_program(rt: &impl Abort, alloc: Global, row: &Program) -> LowProgram {
     let flat = flat_program(rt, alloc, row);
     assert!(rt; flat.is_closed());
-    let low = with_casts(rt, alloc, CASTS).low_of(alloc, &flat, &Merged)?;
+    with_casts(rt, alloc, CASTS).low_of(rt, alloc, &flat, &Merged)
+}
+
+// What the image of a program comes to.
+fn stop_of(rt: &impl Abort, alloc: Global, row: &Program) -> Stop {
+    let low = low_program(rt, alloc, row);
     assert!(rt; low.is_closed());
-    Ok(runs(alloc, &low, &labels(rt, alloc), 4096, 65_536)?)
+    runs(rt, alloc, &low, &labels(rt, alloc), 4096, 65_536)
 }
 
 // Each program comes to what its row says.
-fn come_to(rt: &impl Abort, alloc: Global, rows: &[Program]) -> Result<(), Fail> {
+fn come_to(rt: &impl Abort, alloc: Global, rows: &[Program]) {
     for (at, row) in rows.iter().enumerate() {
-        assert!(rt;
-            stop_of(rt, alloc, row)? == wanted(&row.end),
-            "program {at}"
-        );
+        assert!(rt; stop_of(rt, alloc, row) == wanted(&row.end), "program {at}");
     }
-    Ok(())
 }
 
 #[test]
-fn boxes_are_read_and_written_through_proxies(rt: HostRuntime) -> Result<(), Fail> {
-    come_to(&rt, rt.alloc(), BOXES)
+fn boxes_are_read_and_written_through_proxies(rt: HostRuntime) {
+    come_to(&rt, rt.alloc(), BOXES);
 }
 
 #[test]
-fn vectors_are_read_and_written_through_proxies(rt: HostRuntime) -> Result<(), Fail> {
-    come_to(&rt, rt.alloc(), VECTORS)?;
-    come_to(&rt, rt.alloc(), VECTOR_BLAMES)
+fn vectors_are_read_and_written_through_proxies(rt: HostRuntime) {
+    come_to(&rt, rt.alloc(), VECTORS);
+    come_to(&rt, rt.alloc(), VECTOR_BLAMES);
 }
 
 #[test]
-fn parts_are_taken_through_proxies_and_out_of_dyn(rt: HostRuntime) -> Result<(), Fail> {
-    come_to(&rt, rt.alloc(), TUPLES)
+fn parts_are_taken_through_proxies_and_out_of_dyn(rt: HostRuntime) {
+    come_to(&rt, rt.alloc(), TUPLES);
 }
 
 #[test]
-fn functions_are_called_through_proxies(rt: HostRuntime) -> Result<(), Fail> {
-    come_to(&rt, rt.alloc(), FUNCTIONS)
+fn functions_are_called_through_proxies(rt: HostRuntime) {
+    come_to(&rt, rt.alloc(), FUNCTIONS);
 }

@@ -16,11 +16,11 @@ use grift_base::operators::PrimOp::{
 };
 use grift_base::places::TypeId;
 use grift_base::verdicts::Trap;
+use low_ir::programs::LowProgram;
 use piled_scheme::scheme::Piled;
 use rv_emulator::stops::Stop;
 use std::alloc::Global;
 use std::process::Abort;
-use std::test::Fail;
 
 // The casts by their numbers, each of which has the label of its number.
 const SAME: u32 = 0;
@@ -144,51 +144,58 @@ const VECTORS: &[Program] = &[
     },
 ];
 
-// What the image of a program comes to in a region of this size.
-fn stop_of(rt: &impl Abort, alloc: Global, row: &Program, region: u64) -> Result<Stop, Fail>
-    requires { IsRegionSize region }
-{
+// The numbered procedures of a row, one alone.
+fn flat_program(rt: &impl Abort, alloc: Global, row: &Program) -> FlatProgram {
     let mut procs = FlatProcs::new(alloc);
     let begins = body(rt, alloc, row.turns, &row.last);
     procs.push(proc(0, 0, 0, begins)).expect(rt, "memory");
-    let flat = FlatProgram {
+    FlatProgram {
         procs,
         entry: 0,
         answer: INT,
-    };
+    }
+}
+
+// The program over words of a row.
+fn low_program(rt: &impl Abort, alloc: Global, row: &Program) -> LowProgram {
+    let flat = flat_program(rt, alloc, row);
     assert!(rt; flat.is_closed());
-    let low = with_casts(rt, alloc, CASTS).low_of(alloc, &flat, &Piled)?;
+    with_casts(rt, alloc, CASTS).low_of(rt, alloc, &flat, &Piled)
+}
+
+// What the image of a program comes to in a region of this size.
+fn stop_of(rt: &impl Abort, alloc: Global, row: &Program, region: u64) -> Stop
+    requires { IsRegionSize region }
+{
+    let low = low_program(rt, alloc, row);
     assert!(rt; low.is_closed());
-    Ok(runs(alloc, &low, &labels(rt, alloc), region, 65_536)?)
+    runs(rt, alloc, &low, &labels(rt, alloc), region, 65_536)
 }
 
 // Each program comes to what its row says.
-fn come_to(rt: &impl Abort, alloc: Global, rows: &[Program]) -> Result<(), Fail> {
+fn come_to(rt: &impl Abort, alloc: Global, rows: &[Program]) {
     for (at, row) in rows.iter().enumerate() {
         assert!(rt;
-            stop_of(rt, alloc, row, 4096)? == wanted(&row.end),
+            stop_of(rt, alloc, row, 4096) == wanted(&row.end),
             "program {at}"
         );
     }
-    Ok(())
 }
 
 #[test]
-fn boxes_are_read_and_written_through_piles_of_wrappers(rt: HostRuntime) -> Result<(), Fail> {
-    come_to(&rt, rt.alloc(), BOXES)
+fn boxes_are_read_and_written_through_piles_of_wrappers(rt: HostRuntime) {
+    come_to(&rt, rt.alloc(), BOXES);
 }
 
 #[test]
-fn vectors_are_made_read_and_written(rt: HostRuntime) -> Result<(), Fail> {
-    come_to(&rt, rt.alloc(), VECTORS)
+fn vectors_are_made_read_and_written(rt: HostRuntime) {
+    come_to(&rt, rt.alloc(), VECTORS);
 }
 
 // A box has two words, and each of its three wrappers three.
 #[test]
-fn each_cast_of_a_box_takes_three_words(rt: HostRuntime) -> Result<(), Fail> {
-    let alloc = rt.alloc();
+fn each_cast_of_a_box_takes_three_words(rt: HostRuntime) {
     let row = &BOXES[0];
-    assert!(&rt; stop_of(&rt, alloc, row, 88)? == wanted(&row.end));
-    assert!(&rt; stop_of(&rt, alloc, row, 80)? == Stop::RegionOut);
-    Ok(())
+    assert!(&rt; stop_of(&rt, rt.alloc(), row, 88) == wanted(&row.end));
+    assert!(&rt; stop_of(&rt, rt.alloc(), row, 80) == Stop::RegionOut);
 }
