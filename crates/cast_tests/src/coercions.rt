@@ -5,7 +5,7 @@ use crate::pools::Setting;
 use crate::rows::{Rows, Tally, answered, told};
 use grift_base::places::LabelId;
 use std::alloc::Global;
-use std::test::Fail;
+use std::process::Abort;
 
 // How many casts one program has.
 const MANY: u64 = 1_000;
@@ -14,55 +14,60 @@ const MANY: u64 = 1_000;
 const PROGRAMS: u64 = 10;
 
 // Random casts go behind the statics; their coercions in the table are wanted.
-fn push_casts(alloc: Global, setting: &mut Setting, rows: &mut Rows) -> Result<(), Fail> {
+fn push_casts(rt: &impl Abort, alloc: Global, setting: &mut Setting, rows: &mut Rows) {
     for _ in 0..MANY {
-        let (from, to) = setting.sample.pair(&mut setting.random)?;
+        let (from, to) = setting.sample.pair(rt, &mut setting.random);
         let label = setting.random.below(1_000_000) as u32;
-        let first = told(rows.statics.type_at.as_slice(), from.0)?;
-        let second = told(rows.statics.type_at.as_slice(), to.0)?;
-        let made = setting.pool.cast(alloc, from, to, LabelId(label))?;
-        rows.push([first, second, u64::from(label)], made)?;
+        let first = told(rt, rows.statics.type_at.as_slice(), from.0);
+        let second = told(rt, rows.statics.type_at.as_slice(), to.0);
+        let made = setting.pool.cast(rt, alloc, from, to, LabelId(label));
+        rows.push(rt, [first, second, u64::from(label)], made);
     }
-    Ok(())
 }
 
 // Random casts between the types of a setting.
-fn casts(alloc: Global, setting: &mut Setting) -> Result<Rows, Fail> {
-    let mut rows = Rows::new(alloc, &setting.pool)?;
-    push_casts(alloc, setting, &mut rows)?;
-    Ok(rows)
+fn casts(rt: &impl Abort, alloc: Global, setting: &mut Setting) -> Rows {
+    let mut rows = Rows::new(rt, alloc, &setting.pool);
+    push_casts(rt, alloc, setting, &mut rows);
+    rows
 }
 
 // The answers of one program, between random types, against the coercions of these casts, of which some are skipped.
-fn tally(alloc: Global, seed: u64, skipped: usize) -> Result<Tally, Fail> {
-    let mut setting = Setting::new(alloc, seed)?;
-    let rows = casts(alloc, &mut setting)?;
+fn tally(rt: &impl Abort, alloc: Global, seed: u64, skipped: usize) -> Tally {
+    let mut setting = Setting::new(rt, alloc, seed);
+    let rows = casts(rt, alloc, &mut setting);
     let taken = [word(3), word(4), word(5)];
-    answered(alloc, COERCE, &taken, rows, setting.pool.table(), skipped)
+    answered(
+        rt,
+        alloc,
+        COERCE,
+        &taken,
+        rows,
+        setting.pool.table(),
+        skipped,
+    )
 }
 
 // Those of all programs.
-fn tally_of_all(alloc: Global) -> Result<Tally, Fail> {
+fn tally_of_all(rt: &impl Abort, alloc: Global) -> Tally {
     let mut all = Tally::NONE;
     for seed in 0..PROGRAMS {
-        all = all.and(tally(alloc, seed, 0)?);
+        all = all.and(tally(rt, alloc, seed, 0));
     }
-    Ok(all)
+    all
 }
 
 #[test]
-fn coercions_are_those_of_tables(rt: HostRuntime) -> Result<(), Fail> {
-    let all = tally_of_all(rt.alloc())?;
+fn coercions_are_those_of_tables(rt: HostRuntime) {
+    let all = tally_of_all(&rt, rt.alloc());
     assert!(rt; all.alike == MANY * PROGRAMS);
     // many of them have parts
     assert!(rt; all.high > 2_000);
-    Ok(())
 }
 
 // Each answer against the coercion of the cast behind it: few are alike.
 #[test]
-fn wrong_coercions_are_found(rt: HostRuntime) -> Result<(), Fail> {
-    let wrong = tally(rt.alloc(), 1, 1)?;
+fn wrong_coercions_are_found(rt: HostRuntime) {
+    let wrong = tally(&rt, rt.alloc(), 1, 1);
     assert!(rt; wrong.alike < MANY / 4);
-    Ok(())
 }

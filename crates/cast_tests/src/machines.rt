@@ -4,7 +4,7 @@ ghost use Rattle.std.specs.Prelude.{◌≡◌};
 ghost use Rattle.rv_machine.specs.Start.{IsRegionSize, IsStackSize};
 
 use assembler::image::Image;
-use grift_base::lists::{Bytes, OutOfMemory};
+use grift_base::lists::Bytes;
 use grift_base::places::LabelTable;
 use grift_base::worlds::World;
 use low_ir::programs::LowProgram;
@@ -16,7 +16,7 @@ use rv_emulator::machine::Machine;
 use rv_emulator::stops::Stop;
 use rv_isa::number::Reg;
 use std::alloc::Global;
-use std::test::Fail;
+use std::process::Abort;
 
 // The bytes of the region and of the stack.
 const REGION: u64 = 4_194_304;
@@ -32,79 +32,67 @@ pub(crate) struct Ended {
 }
 
 // The image of a program that is closed.
-fn image_for(alloc: Global, low: &LowProgram) -> Result<Image, Fail> {
-    if !low.is_closed() {
-        return Err(Fail::from("the program is not closed"));
-    }
-    let made = image_of(alloc, low, &LabelTable::new(alloc));
-    Ok(made?)
+fn image_for(rt: &impl Abort, alloc: Global, low: &LowProgram) -> Image {
+    assert!(rt; low.is_closed(), "the program is not closed");
+    image_of(alloc, low, &LabelTable::new(alloc)).expect(rt, "memory")
 }
 
 // The machine of an image at its start.
-fn started(alloc: Global, image: &Image) -> Result<Machine<FlatRam>, OutOfMemory> {
+fn started(rt: &impl Abort, alloc: Global, image: &Image) -> Machine<FlatRam> {
     let size = image.loaded().len() as u64 + REGION + STACK;
-    let ram = FlatRam::new(alloc, size)?;
+    let ram = FlatRam::new(alloc, size).expect(rt, "memory");
     let world = World::new(alloc, Bytes::new(alloc));
-    Machine::load(alloc, image, ram, REGION, STACK, world)
+    Machine::load(alloc, image, ram, REGION, STACK, world).expect(rt, "memory")
 }
 
 // The report of what stands from an address to the allocation word.
-fn report_from(machine: &Machine<FlatRam>, from: u64) -> Result<SpaceReport, Fail> {
+fn report_from(rt: &impl Abort, machine: &Machine<FlatRam>, from: u64) -> SpaceReport {
     let to = machine.reg(Reg::new(26));
     if to < from {
-        return Err(Fail::from("the allocation word is too low"));
+        panic!(rt; "the allocation word is too low");
     }
-    match walk(machine, from, to) {
-        Ok(report) => Ok(report),
-        Err(_fault) => Err(Fail::from("the region is torn")),
-    }
+    walk(machine, from, to).expect(rt, "the region is torn")
 }
 
 // Why a machine stops, whose region begins at an address. Every so many turns what was added to the region has to be
 // whole objects with no proxy on a proxy.
-fn run_on(machine: &mut Machine<FlatRam>, from: u64, turns: u64) -> Result<Stop, Fail> {
+fn run_on(rt: &impl Abort, machine: &mut Machine<FlatRam>, from: u64, turns: u64) -> Stop {
     let mut seen = from;
     for _ in 0..10_000_000 {
         let stop = machine.run(turns);
-        let added = report_from(machine, seen)?;
-        if added.stacked != 0 {
-            return Err(Fail::from("a proxy stands on a proxy"));
-        }
+        let added = report_from(rt, machine, seen);
+        assert!(rt; added.stacked == 0, "a proxy stands on a proxy");
         if stop != Stop::StepsSpent {
-            return Ok(stop);
+            return stop;
         }
         seen = seen.wrapping_add(added.bytes);
     }
-    Ok(Stop::StepsSpent)
+    Stop::StepsSpent
 }
 
-// The answer of a machine, and what fills the region then.
-fn answer_of(
-    machine: &mut Machine<FlatRam>,
-    from: u64,
-    turns: u64,
-) -> Result<(u64, SpaceReport), Fail> {
-    let word = match run_on(machine, from, turns)? {
+// The answer of a machine.
+fn answer_of(rt: &impl Abort, machine: &mut Machine<FlatRam>, from: u64, turns: u64) -> u64 {
+    match run_on(rt, machine, from, turns) {
         Stop::Ended(answer) => answer.word.cast_unsigned(),
-        _ => return Err(Fail::from("the program comes to no answer")),
-    };
-    Ok((word, report_from(machine, from)?))
+        _ => panic!(rt; "the program comes to no answer"),
+    }
 }
 
-// Runs a machine to its answer.
-fn end_of(machine: Machine<FlatRam>, from: u64, turns: u64) -> Result<Ended, Fail> {
+// Runs a machine to its answer; what fills the region then is seen at the end.
+fn end_of(rt: &impl Abort, machine: Machine<FlatRam>, from: u64, turns: u64) -> Ended {
     let mut machine = machine;
-    let (word, report) = answer_of(&mut machine, from, turns)?;
-    Ok(Ended {
+    let word = answer_of(rt, &mut machine, from, turns);
+    let report = report_from(rt, &machine, from);
+    Ended {
         machine,
         word,
         report,
-    })
+    }
 }
 
 // Runs a program to its answer, looking at the region every so many turns, and at the end at all of it.
-pub(crate) fn runs(alloc: Global, low: &LowProgram, turns: u64) -> Result<Ended, Fail> {
-    let image = image_for(alloc, low)?;
+pub(crate) fn runs(rt: &impl Abort, alloc: Global, low: &LowProgram, turns: u64) -> Ended {
+    let image = image_for(rt, alloc, low);
     let from = FIRST_ADDRESS.wrapping_add(image.loaded().len() as u64);
-    end_of(started(alloc, &image)?, from, turns)
+    end_of(rt, started(rt, alloc, &image), from, turns)
 }

@@ -10,13 +10,12 @@ use coercion_norm::casts::coerce;
 use coercion_norm::nodes::CoercionId;
 use coercion_norm::placing::place_rows;
 use coercion_norm::tables::CoercionTable;
-use grift_base::lists::OutOfMemory;
 use grift_base::places::{LabelId, TypeId};
 use grift_base::words::Statics;
 use machine_words::FIRST_ADDRESS;
 use std::alloc::Global;
 use std::marker::Model;
-use std::test::Fail;
+use std::process::Abort;
 use type_graph::tables::TypeTable;
 
 #[derive(Drop)]
@@ -38,9 +37,9 @@ impl Model for Pool {
 
 impl Pool {
     // No coercions but Id.
-    pub(crate) fn new(alloc: Global, types: TypeTable) -> Result<Pool, OutOfMemory> {
-        let table = CoercionTable::new(alloc)?;
-        Ok(Pool { types, table })
+    pub(crate) fn new(rt: &impl Abort, alloc: Global, types: TypeTable) -> Pool {
+        let table = CoercionTable::new(alloc).expect(rt, "memory");
+        Pool { types, table }
     }
 
     pub(crate) fn table(&self) -> &CoercionTable {
@@ -48,49 +47,52 @@ impl Pool {
     }
 
     // The height of a coercion.
-    pub(crate) fn height(&self, c: CoercionId) -> Result<u32, Fail> {
-        if c.0 >= self.table.len() {
-            return Err(Fail::from("no coercion is there"));
-        }
-        Ok(self.table.height(c))
+    pub(crate) fn height(&self, rt: &impl Abort, c: CoercionId) -> u32 {
+        assert!(rt; c.0 < self.table.len(), "no coercion is there");
+        self.table.height(c)
     }
 
     // The coercion of a cast.
     pub(crate) fn cast(
         &mut self,
+        rt: &impl Abort,
         alloc: Global,
         from: TypeId,
         to: TypeId,
         label: LabelId,
-    ) -> Result<CoercionId, Fail> {
-        if from.0 >= self.types.len() || to.0 >= self.types.len() {
-            return Err(Fail::from("no type is there"));
-        }
-        Ok(coerce(alloc, &mut self.table, &self.types, from, to, label)?)
+    ) -> CoercionId {
+        assert!(rt;
+            from.0 < self.types.len() && to.0 < self.types.len(),
+            "no type is there"
+        );
+        coerce(alloc, &mut self.table, &self.types, from, to, label).expect(rt, "memory")
     }
 
     // The composition of two coercions.
     pub(crate) fn compose(
         &mut self,
+        rt: &impl Abort,
         alloc: Global,
         c: CoercionId,
         d: CoercionId,
-    ) -> Result<CoercionId, Fail> {
-        if c.0 >= self.table.len() || d.0 >= self.table.len() {
-            return Err(Fail::from("no coercion is there"));
-        }
-        Ok(compose(alloc, &mut self.table, &self.types, c, d)?)
+    ) -> CoercionId {
+        assert!(rt;
+            c.0 < self.table.len() && d.0 < self.table.len(),
+            "no coercion is there"
+        );
+        compose(alloc, &mut self.table, &self.types, c, d).expect(rt, "memory")
     }
 
     // The objects of all types and coercions.
-    pub(crate) fn place(&self, alloc: Global) -> Result<Statics, OutOfMemory> {
-        place_rows(
+    pub(crate) fn place(&self, rt: &impl Abort, alloc: Global) -> Statics {
+        let placed = place_rows(
             alloc,
             &self.types,
             &self.table,
             &CastRows::new(alloc),
             FIRST_ADDRESS,
-        )
+        );
+        placed.expect(rt, "memory")
     }
 }
 
@@ -104,15 +106,15 @@ pub(crate) struct Setting {
 
 impl Setting {
     // The types of a seed, and no coercions but Id.
-    pub(crate) fn new(alloc: Global, seed: u64) -> Result<Setting, Fail> {
+    pub(crate) fn new(rt: &impl Abort, alloc: Global, seed: u64) -> Setting {
         let mut random = Random::new(seed);
-        let mut types = TypeTable::new(alloc)?;
-        let sample = sample_of(alloc, &mut random, &mut types)?;
-        let pool = Pool::new(alloc, types)?;
-        Ok(Setting {
+        let mut types = TypeTable::new(alloc).expect(rt, "memory");
+        let sample = sample_of(rt, alloc, &mut random, &mut types);
+        let pool = Pool::new(rt, alloc, types);
+        Setting {
             random,
             sample,
             pool,
-        })
+        }
     }
 }

@@ -6,50 +6,53 @@ use crate::pools::Pool;
 use crate::trees::Reading;
 use coercion_norm::nodes::CoercionId;
 use coercion_norm::tables::CoercionTable;
-use grift_base::lists::OutOfMemory;
 use grift_base::words::Statics;
-use low_ir::code::{LowSource, WordOp};
+use low_ir::code::{LowCode, LowSource, WordOp};
 use low_ir::programs::{LowProc, LowProcs, LowProgram};
 use machine_words::FIRST_ADDRESS;
 use object_layout::headers::{Header, pack};
 use object_layout::kinds::Kind;
 use std::alloc::Global;
-use std::test::Fail;
+use std::process::Abort;
 
 // How many turns are made between two looks at the region.
 const TURNS: u64 = 1_000;
 
-// Calls a procedure with each row of three words from the address in word 1 to that in word 0, the last one first; it
-// takes these of the words 3, 4 and 5. Each answer goes, before word 2, into a tuple with the tuple of the one before.
-fn calls(alloc: Global, procedure: u32, taken: &[LowSource]) -> Result<LowProc, OutOfMemory> {
+// The code that calls a procedure with each row of three words from the address in word 1 to that in word 0, the last
+// one first; it takes these of the words 3, 4 and 5. Each answer goes, before word 2, into a tuple with the tuple of
+// the one before.
+fn calling_code(rt: &impl Abort, alloc: Global, procedure: u32, taken: &[LowSource]) -> LowCode {
     let header = pack(Header {
         kind: Kind::Tuple.number(),
         height: 0,
         count: 2,
     });
-    let code = round(alloc, &[word(0), word(1), word(2)])?;
-    let code = build(alloc, 2, &[number(header), word(6), word(2)], code)?;
-    let mut code = call(alloc, 6, procedure, taken, code)?;
-    for (taken, offset) in [(5, 16), (4, 8), (3, 0)] {
-        code = load(alloc, taken, offset, code)?;
-    }
-    let code = change(alloc, WordOp::Sub, 0, 24, code)?;
-    let code = until(alloc, word(1), word(2), code)?;
-    Ok(LowProc {
+    let code = round(rt, alloc, &[word(0), word(1), word(2)]);
+    let code = build(rt, alloc, 2, &[number(header), word(6), word(2)], code);
+    let code = call(rt, alloc, 6, procedure, taken, code);
+    let code = load(rt, alloc, 5, 16, code);
+    let code = load(rt, alloc, 4, 8, code);
+    let code = load(rt, alloc, 3, 0, code);
+    let code = change(rt, alloc, WordOp::Sub, 0, 24, code);
+    until(rt, alloc, word(1), word(2), code)
+}
+
+// The procedure with that code.
+fn calls(rt: &impl Abort, alloc: Global, procedure: u32, taken: &[LowSource]) -> LowProc {
+    LowProc {
         params: 3,
         words: 7,
-        code,
-    })
+        code: calling_code(rt, alloc, procedure, taken),
+    }
 }
 
 // Begins with the rows between two addresses.
-fn begins(alloc: Global, end: u64, from: u64) -> Result<LowProc, OutOfMemory> {
-    let code = round(alloc, &[number(end), number(from), number(0)])?;
-    Ok(LowProc {
+fn begins(rt: &impl Abort, alloc: Global, end: u64, from: u64) -> LowProc {
+    LowProc {
         params: 0,
         words: 0,
-        code,
-    })
+        code: round(rt, alloc, &[number(end), number(from), number(0)]),
+    }
 }
 
 // Statics with rows of three words behind them, and the coercions that the rows are to be answered with.
@@ -61,39 +64,39 @@ pub(crate) struct Rows {
 
 impl Rows {
     // No rows.
-    pub(crate) fn new(alloc: Global, pool: &Pool) -> Result<Rows, OutOfMemory> {
-        let statics = pool.place(alloc)?;
+    pub(crate) fn new(rt: &impl Abort, alloc: Global, pool: &Pool) -> Rows {
+        let statics = pool.place(rt, alloc);
         let wanted = Vec::new(alloc);
-        Ok(Rows { statics, wanted })
+        Rows { statics, wanted }
     }
 
     // One more row.
-    pub(crate) fn push(&mut self, row: [u64; 3], wanted: CoercionId) -> Result<(), OutOfMemory> {
-        self.statics.words.extend(&row)?;
-        self.wanted.push(wanted)?;
-        Ok(())
+    pub(crate) fn push(&mut self, rt: &impl Abort, row: [u64; 3], wanted: CoercionId) {
+        self.statics.words.extend(&row).expect(rt, "memory");
+        self.wanted.push(wanted).expect(rt, "memory");
     }
 }
 
 // The procedures of a program that calls one of them with each row behind its statics.
 fn calling(
+    rt: &impl Abort,
     alloc: Global,
     procedure: u32,
     taken: &[LowSource],
     rows: &Rows,
-) -> Result<LowProcs, OutOfMemory> {
+) -> LowProcs {
     let end = FIRST_ADDRESS.wrapping_add(rows.statics.words.len().wrapping_mul(8));
     let from = end.wrapping_sub((rows.wanted.len() as u64).wrapping_mul(24));
-    let goes_round = calls(alloc, procedure, taken)?;
-    let begins = begins(alloc, end, from)?;
-    procs_with(alloc, goes_round, begins)
+    let goes_round = calls(rt, alloc, procedure, taken);
+    let begins = begins(rt, alloc, end, from);
+    procs_with(rt, alloc, goes_round, begins)
 }
 
 // A word that is told for a place.
-pub(crate) fn told(words: &[u64], place: u32) -> Result<u64, Fail> {
+pub(crate) fn told(rt: &impl Abort, words: &[u64], place: u32) -> u64 {
     match words.get(place as usize) {
-        Some(word) => Ok(*word),
-        None => Err(Fail::from("nothing is told for the place")),
+        Some(word) => *word,
+        None => panic!(rt; "nothing is told for the place"),
     }
 }
 
@@ -118,54 +121,57 @@ impl Tally {
 // What the machine answers when a procedure takes these words of each row, against the coercions of a table that are
 // wanted. Where some are skipped, the first answer is held against the coercion behind those, and so on.
 pub(crate) fn answered(
+    rt: &impl Abort,
     alloc: Global,
     procedure: u32,
     taken: &[LowSource],
     rows: Rows,
     table: &CoercionTable,
     skipped: usize,
-) -> Result<Tally, Fail> {
-    let procs = calling(alloc, procedure, taken, &rows)?;
+) -> Tally {
+    let procs = calling(rt, alloc, procedure, taken, &rows);
     let Rows { statics, wanted } = rows;
     let low = program(procs, statics);
-    compared(alloc, &low, table, wanted.as_slice(), skipped)
+    compared(rt, alloc, &low, table, wanted.as_slice(), skipped)
 }
 
 // The answers of a program, the first one first, against these coercions, of which some are skipped.
 fn compared(
+    rt: &impl Abort,
     alloc: Global,
     low: &LowProgram,
     table: &CoercionTable,
     coercions: &[CoercionId],
     skipped: usize,
-) -> Result<Tally, Fail> {
-    let ended = runs(alloc, low, TURNS)?;
+) -> Tally {
+    let ended = runs(rt, alloc, low, TURNS);
     let reading = Reading {
         machine: &ended.machine,
         table,
         type_at: low.statics.type_at.as_slice(),
     };
-    tallied(alloc, &reading, ended.word, coercions, skipped)
+    tallied(rt, alloc, &reading, ended.word, coercions, skipped)
 }
 
 // The answers in a tuple and those behind it against these coercions, of which some are skipped.
 fn tallied(
+    rt: &impl Abort,
     alloc: Global,
     reading: &Reading,
     cell: u64,
     coercions: &[CoercionId],
     skipped: usize,
-) -> Result<Tally, Fail> {
+) -> Tally {
     let Some(coercions) = coercions.get(skipped..) else {
-        return Err(Fail::from("there are fewer coercions"));
+        panic!(rt; "there are fewer coercions");
     };
     let mut tally = Tally::NONE;
     let mut cell = cell;
     for c in coercions {
         let (Some(answer), Some(rest)) = (reading.word(cell, 1), reading.word(cell, 2)) else {
-            return Err(Fail::from("an answer is missing"));
+            panic!(rt; "an answer is missing");
         };
-        if reading.holds(alloc, *c, answer)? {
+        if reading.holds(rt, alloc, *c, answer) {
             let high = c.0 < reading.table.len() && reading.table.height(*c) != 0;
             tally = tally.and(Tally {
                 alike: 1,
@@ -174,5 +180,5 @@ fn tallied(
         }
         cell = rest;
     }
-    Ok(tally)
+    tally
 }

@@ -10,6 +10,7 @@ use object_layout::wholes::header_at;
 use rv_emulator::flat::FlatRam;
 use rv_emulator::machine::Machine;
 use std::alloc::Global;
+use std::process::Abort;
 
 // How many nodes of a coercion are looked at.
 const MOST_NODES: u32 = 100_000;
@@ -29,45 +30,62 @@ struct Pending {
     word: u64,
 }
 
+// A coercion that is pending, if there is memory for it.
+fn push_pending(pending: &mut Vec<Pending>, one: Pending) -> Result<(), OutOfMemory> {
+    Ok(pending.push(one)?)
+}
+
+// One more is pending.
+fn await_one(rt: &impl Abort, pending: &mut Vec<Pending>, coercion: CoercionId, word: u64) {
+    push_pending(pending, Pending { coercion, word }).expect(rt, "memory");
+}
+
 impl<'a> Reading<'a> {
     // Whether the word holds the coercion.
     pub(crate) fn holds(
         &self,
+        rt: &impl Abort,
         alloc: Global,
         coercion: CoercionId,
         word: u64,
-    ) -> Result<bool, OutOfMemory> {
+    ) -> bool {
         let mut pending = Vec::new(alloc);
-        pending.push(Pending { coercion, word })?;
+        await_one(rt, &mut pending, coercion, word);
+        self.all_agree(rt, alloc, &mut pending)
+    }
+
+    // Whether what is pending agrees, and all that comes to be pending.
+    fn all_agree(&self, rt: &impl Abort, alloc: Global, pending: &mut Vec<Pending>) -> bool {
         for _ in 0..MOST_NODES {
             match pending.pop() {
-                None => return Ok(true),
+                None => return true,
                 Some(next) => {
-                    if !self.agrees(alloc, next, &mut pending)? {
-                        return Ok(false);
+                    if !self.agrees(rt, alloc, next, pending) {
+                        return false;
                     }
                 }
             }
         }
-        Ok(false)
+        false
     }
 
     // Whether an object is as the coercion's node says; its parts go to those that are pending.
     fn agrees(
         &self,
+        rt: &impl Abort,
         alloc: Global,
         here: Pending,
         pending: &mut Vec<Pending>,
-    ) -> Result<bool, OutOfMemory> {
+    ) -> bool {
         if here.coercion.0 >= self.table.len() {
-            return Ok(false);
+            return false;
         }
         let node = self.table.node(here.coercion);
         let high = self.table.height(here.coercion);
         if !self.stands(node, high, here.word) {
-            return Ok(false);
+            return false;
         }
-        self.awaits(alloc, node, here.word, pending)
+        self.awaits(rt, alloc, node, here.word, pending)
     }
 
     // Whether an object has a node's header, and the type and the label that the node names.
@@ -104,28 +122,26 @@ impl<'a> Reading<'a> {
     // Whether there are words for a node's parts, which are then to hold these.
     fn awaits(
         &self,
+        rt: &impl Abort,
         alloc: Global,
         node: &CoercionNode,
         at: u64,
         pending: &mut Vec<Pending>,
-    ) -> Result<bool, OutOfMemory> {
+    ) -> bool {
         let mut place = if matches!(node, CoercionNode::Project(..)) {
             3
         } else {
             1
         };
-        let parts = node.parts(alloc)?;
+        let parts = node.parts(alloc).expect(rt, "memory");
         for coercion in parts.as_slice() {
             let Some(word) = self.word(at, place) else {
-                return Ok(false);
+                return false;
             };
-            pending.push(Pending {
-                coercion: *coercion,
-                word,
-            })?;
+            await_one(rt, pending, *coercion, word);
             place = place.wrapping_add(1);
         }
-        Ok(true)
+        true
     }
 
     // The word at a place behind a header; place 0 is the header.
