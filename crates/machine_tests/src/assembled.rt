@@ -20,6 +20,7 @@ use rv_isa::inst::Inst;
 use rv_isa::number::{Imm12, Reg};
 use rv_machine::real::{RealCode, RealItem, RealItems};
 use std::alloc::Global;
+use std::process::Abort;
 
 // The register with this number.
 fn register(number: u8) -> Reg
@@ -106,39 +107,44 @@ fn across(alloc: Global, fillers: u64) -> Result<RealCode, OutOfMemory>
     Ok(RealCode { items })
 }
 
-// The image of this code. None where no memory is left.
-fn image_across(alloc: Global, fillers: u64) -> Option<Image> {
-    let code = across(alloc, fillers).ok()?;
+// The image of this code.
+fn image_across(rt: &impl Abort, alloc: Global, fillers: u64) -> Image {
+    let code = across(alloc, fillers).expect(rt, "memory");
     let image = assemble(alloc, &code, &Statics::new(alloc), &LabelTable::new(alloc));
-    image.ok()
+    image.expect(rt, "memory")
 }
 
-// How many bytes of code there are with these many fillers, and what they come to within 1,000 steps. None where no
-// memory is left.
-fn comes_to(alloc: Global, fillers: u64) -> Option<(u64, Stop)> {
-    let image = image_across(alloc, fillers)?;
-    let mut machine = machine_of(alloc, &image, 16, 16).ok()?;
-    Some((image.code_len(), machine.run(1000)))
+// How many bytes of code there are with these many fillers, and what they come to within 1,000 steps.
+fn comes_to(rt: &impl Abort, alloc: Global, fillers: u64) -> (u64, Stop) {
+    let image = image_across(rt, alloc, fillers);
+    let mut machine = machine_of(rt, alloc, &image, 16, 16);
+    (image.code_len(), machine.run(1000))
 }
 
-// The first of the branches is far from 925 fillers on, the last from 1,011 on: each has ten words more then. From
-// 262,120 fillers on both jumps are far, with nine words more each.
-#[test]
-fn marks_are_near_and_far(rt: HostRuntime) {
-    let rows = [
-        (0, 128),
-        (924, 3824),
-        (925, 3864),
-        (1010, 4368),
-        (1011, 4408),
-        (262_119, 1_048_840),
-        (262_120, 1_048_920),
-    ];
+// Numbers of fillers, and how many bytes of code there are then. The first of the branches is far from 925 fillers on,
+// the last from 1,011 on: each has ten words more then. From 262,120 fillers on both jumps are far, with nine words
+// more each.
+const LENGTHS: &[(u64, u64)] = &[
+    (0, 128),
+    (924, 3824),
+    (925, 3864),
+    (1010, 4368),
+    (1011, 4408),
+    (262_119, 1_048_840),
+    (262_120, 1_048_920),
+];
+
+// Each code is as long as its row says, and comes to 256.
+fn come_to(rt: &impl Abort, alloc: Global, rows: &[(u64, u64)]) {
     for (fillers, code_len) in rows {
-        let came_to = comes_to(rt.alloc(), fillers);
         assert!(rt;
-            came_to == Some((code_len, ended(AnswerKind::Int, 256))),
+            comes_to(rt, alloc, *fillers) == (*code_len, ended(AnswerKind::Int, 256)),
             "{fillers}"
         );
     }
+}
+
+#[test]
+fn marks_are_near_and_far(rt: HostRuntime) {
+    come_to(&rt, rt.alloc(), LENGTHS);
 }

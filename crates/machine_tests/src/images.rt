@@ -1,9 +1,10 @@
 // Images as bytes: what is one, what its header and labels say, and the first fault of what is none.
 
 use assembler::image::{Image, ImageFault, is_image, read_image};
-use grift_base::lists::{Bytes, OutOfMemory};
+use grift_base::lists::Bytes;
 use grift_base::places::Pos;
 use std::alloc::Global;
+use std::process::Abort;
 
 // The smallest image that answers 42, in groups of eight bytes, the first byte of a group the highest.
 pub(crate) const SMALLEST: [u64; 9] = [
@@ -36,24 +37,24 @@ const LABELLED: [u64; 13] = [
 ];
 
 // The bytes of such groups.
-pub(crate) fn bytes_of(alloc: Global, groups: &[u64]) -> Result<Bytes, OutOfMemory> {
+pub(crate) fn bytes_of(rt: &impl Abort, alloc: Global, groups: &[u64]) -> Bytes {
     let mut bytes = Bytes::new(alloc);
     for group in groups {
-        bytes.extend(&group.to_be_bytes())?;
+        bytes.extend(&group.to_be_bytes()).expect(rt, "memory");
     }
-    Ok(bytes)
+    bytes
 }
 
 // Whether bytes are those of such groups.
-pub(crate) fn are_groups(alloc: Global, bytes: &[u8], groups: &[u64]) -> Result<bool, OutOfMemory> {
-    let wanted = bytes_of(alloc, groups)?;
-    Ok(bytes == wanted.as_slice())
+pub(crate) fn are_groups(rt: &impl Abort, alloc: Global, bytes: &[u8], groups: &[u64]) -> bool {
+    let wanted = bytes_of(rt, alloc, groups);
+    bytes == wanted.as_slice()
 }
 
-// The image of such groups. None where they are no image, or no memory is left.
-pub(crate) fn image_of_groups(alloc: Global, groups: &[u64]) -> Option<Image> {
-    let bytes = bytes_of(alloc, groups).ok()?;
-    read_image(alloc, bytes.as_slice()).ok()
+// The image of such groups.
+pub(crate) fn image_of_groups(rt: &impl Abort, alloc: Global, groups: &[u64]) -> Image {
+    let bytes = bytes_of(rt, alloc, groups);
+    read_image(alloc, bytes.as_slice()).expect(rt, "an image")
 }
 
 // Whether bytes have this first fault, or, where it is none, are an image.
@@ -62,11 +63,13 @@ fn have_fault(alloc: Global, bytes: &[u8], fault: Option<ImageFault>) -> bool {
 }
 
 // Whether the smallest image without these many bytes has this first fault.
-fn cut_has_fault(alloc: Global, cut: usize, fault: Option<ImageFault>) -> Option<bool> {
-    let bytes = bytes_of(alloc, &SMALLEST).ok()?;
-    let len = bytes.as_slice().get(cut..)?.len();
-    let first = bytes.as_slice().get(..len)?;
-    Some(have_fault(alloc, first, fault))
+fn cut_has_fault(rt: &impl Abort, alloc: Global, cut: usize, fault: Option<ImageFault>) -> bool {
+    let bytes = bytes_of(rt, alloc, &SMALLEST);
+    let whole = bytes.as_slice();
+    match whole.get(..whole.len().wrapping_sub(cut)) {
+        Some(first) => have_fault(alloc, first, fault),
+        None => false,
+    }
 }
 
 #[test]
@@ -78,43 +81,44 @@ fn images_are_whole(rt: HostRuntime) {
         (65, Some(ImageFault::BadMagic)),
         (72, Some(ImageFault::BadMagic)),
     ] {
-        assert!(rt;
-            matches!(cut_has_fault(rt.alloc(), cut, fault), Some(true)),
+        assert!(&rt;
+            cut_has_fault(&rt, rt.alloc(), cut, fault),
             "without {cut} bytes"
         );
     }
 }
 
 // Whether the image of such groups has their bytes.
-fn keeps_bytes(alloc: Global, groups: &[u64]) -> Option<bool> {
-    let image = image_of_groups(alloc, groups)?;
-    are_groups(alloc, image.bytes(), groups).ok()
+fn keeps_bytes(rt: &impl Abort, alloc: Global, groups: &[u64]) -> bool {
+    let image = image_of_groups(rt, alloc, groups);
+    are_groups(rt, alloc, image.bytes(), groups)
 }
 
 #[test]
 fn an_image_keeps_its_bytes(rt: HostRuntime) {
-    assert!(rt; matches!(keeps_bytes(rt.alloc(), &SMALLEST), Some(true)));
+    assert!(&rt; keeps_bytes(&rt, rt.alloc(), &SMALLEST));
 }
 
 // The smallest image with these groups changed.
-fn changed(alloc: Global, changes: &[(usize, u64)]) -> Result<Bytes, OutOfMemory> {
+fn changed(rt: &impl Abort, alloc: Global, changes: &[(usize, u64)]) -> Bytes {
     let mut groups = SMALLEST;
     for (place, group) in changes {
         if let Some(old) = groups.get_mut(*place) {
             *old = *group;
         }
     }
-    bytes_of(alloc, &groups)
+    bytes_of(rt, alloc, &groups)
 }
 
 // Whether it has this first fault.
 fn changed_has_fault(
+    rt: &impl Abort,
     alloc: Global,
     changes: &[(usize, u64)],
     fault: ImageFault,
-) -> Result<bool, OutOfMemory> {
-    let bytes = changed(alloc, changes)?;
-    Ok(have_fault(alloc, bytes.as_slice(), Some(fault)))
+) -> bool {
+    let bytes = changed(rt, alloc, changes);
+    have_fault(alloc, bytes.as_slice(), Some(fault))
 }
 
 // Groups that are changed, and the fault. The last row has sections whose sum wraps to the right length.
@@ -137,14 +141,19 @@ const CHANGES: [(&[(usize, u64)], ImageFault); 13] = [
     ),
 ];
 
-#[test]
-fn each_field_is_tested(rt: HostRuntime) {
-    for (changes, fault) in &CHANGES {
+// Each change has the fault of its row.
+fn all_have_faults(rt: &impl Abort, alloc: Global, rows: &[(&'static [(usize, u64)], ImageFault)]) {
+    for (changes, fault) in rows {
         assert!(rt;
-            matches!(changed_has_fault(rt.alloc(), changes, *fault), Ok(true)),
+            changed_has_fault(rt, alloc, changes, *fault),
             "{changes:?}"
         );
     }
+}
+
+#[test]
+fn each_field_is_tested(rt: HostRuntime) {
+    all_have_faults(&rt, rt.alloc(), &CHANGES);
 }
 
 // The labels of the second image.
@@ -164,23 +173,27 @@ fn numbers_of(image: &Image) -> [u64; 5] {
 }
 
 // The numbers of the second image, and its labels 0, 1 and 2.
-fn told(alloc: Global) -> Option<([u64; 5], [Option<Pos>; 3])> {
-    let image = image_of_groups(alloc, &LABELLED)?;
+fn told(rt: &impl Abort, alloc: Global) -> ([u64; 5], [Option<Pos>; 3]) {
+    let image = image_of_groups(rt, alloc, &LABELLED);
     let labels = [image.label(0), image.label(1), image.label(2)];
-    Some((numbers_of(&image), labels))
+    (numbers_of(&image), labels)
 }
 
-// Whether it is loaded as it should be, and has both labels.
-fn is_told(alloc: Global) -> Option<bool> {
-    let image = image_of_groups(alloc, &LABELLED)?;
-    let labels = image.labels(alloc).ok()?;
-    let is_loaded = are_groups(alloc, image.loaded(), &LABELLED[8..11]).ok()?;
-    Some(is_loaded && labels.as_slice() == [FIRST, SECOND].as_slice())
+// Whether an image has both labels.
+fn has_labels(rt: &impl Abort, alloc: Global, image: &Image) -> bool {
+    let labels = image.labels(alloc).expect(rt, "memory");
+    labels.as_slice() == [FIRST, SECOND].as_slice()
+}
+
+// Whether the second image is loaded as it should be, and has both labels.
+fn is_told(rt: &impl Abort, alloc: Global) -> bool {
+    let image = image_of_groups(rt, alloc, &LABELLED);
+    are_groups(rt, alloc, image.loaded(), &LABELLED[8..11]) && has_labels(rt, alloc, &image)
 }
 
 #[test]
 fn an_image_tells_its_parts(rt: HostRuntime) {
     let labels = [Some(FIRST), Some(SECOND), None];
-    assert!(rt; told(rt.alloc()) == Some(([104, 8, 16, 4, 2], labels)));
-    assert!(rt; matches!(is_told(rt.alloc()), Some(true)));
+    assert!(&rt; told(&rt, rt.alloc()) == ([104, 8, 16, 4, 2], labels));
+    assert!(&rt; is_told(&rt, rt.alloc()));
 }

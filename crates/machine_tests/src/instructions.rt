@@ -4,6 +4,7 @@ use machine_words::conditions::Cond;
 use rv_isa::inst::{Inst, decode, encode};
 use rv_isa::number::{Imm12, Imm13, Imm21, Reg, Shift5, Shift6, Upper};
 use rv_machine::branches::branch;
+use std::process::Abort;
 
 // The numbers of an instruction in the order in which an assembler writes them, zeros after the last. A register
 // is its number; the offset of a load or a store comes last.
@@ -181,8 +182,12 @@ fn parts_with_registers(inst: Inst) -> (&'static str, Operands) {
     }
 }
 
-// The words are those of GNU as and objdump, of Debian's binutils-riscv64-linux-gnu 2.40, at -march=rv64i.
-static ASSEMBLED: [(&str, &[(Numbers, u32)]); 52] = [
+// An instruction's name, and its numbers with their words, in several rows. The words are those of GNU as and objdump,
+// of Debian's binutils-riscv64-linux-gnu 2.40, at -march=rv64i.
+type Assembled = (&'static str, &'static [(Numbers, u32)]);
+
+// Upper immediates, jumps and branches.
+static JUMPS: [Assembled; 10] = [
     (
         "lui",
         &[
@@ -301,6 +306,10 @@ static ASSEMBLED: [(&str, &[(Numbers, u32)]); 52] = [
             ((1, 0, 4094), 0x7e00ffe3),
         ],
     ),
+];
+
+// Loads and stores.
+static MEMORY: [Assembled; 11] = [
     (
         "lb",
         &[
@@ -433,6 +442,10 @@ static ASSEMBLED: [(&str, &[(Numbers, u32)]); 52] = [
             ((31, 1, 2047), 0x7ff0bfa3),
         ],
     ),
+];
+
+// Operations on a register and a number.
+static IMMEDIATES: [Assembled; 9] = [
     (
         "addi",
         &[
@@ -535,6 +548,10 @@ static ASSEMBLED: [(&str, &[(Numbers, u32)]); 52] = [
             ((31, 0, 63), 0x43f05f93),
         ],
     ),
+];
+
+// Operations on two registers.
+static REGISTERS: [Assembled; 10] = [
     (
         "add",
         &[
@@ -615,6 +632,10 @@ static ASSEMBLED: [(&str, &[(Numbers, u32)]); 52] = [
             ((1, 31, 0), 0x000ff0b3),
         ],
     ),
+];
+
+// Operations on words of 32 bits.
+static WORDS: [Assembled; 9] = [
     (
         "addiw",
         &[
@@ -694,6 +715,10 @@ static ASSEMBLED: [(&str, &[(Numbers, u32)]); 52] = [
             ((31, 0, 1), 0x40105fbb),
         ],
     ),
+];
+
+// What orders memory, and what calls the environment.
+static SYSTEM: [Assembled; 3] = [
     (
         "fence",
         &[
@@ -733,14 +758,44 @@ fn encodes_back(word: u32) -> bool {
     }
 }
 
-#[test]
-fn assembled_words_decode_and_encode(rt: HostRuntime) {
-    for (name, rows) in &ASSEMBLED {
+// Each word decodes as its row says, and encodes back.
+fn decode_and_encode(rt: &impl Abort, assembled: &[Assembled]) {
+    for (name, rows) in assembled {
         for (numbers, word) in *rows {
             let decodes = decodes_to(*word, name, *numbers);
             assert!(rt; decodes && encodes_back(*word), "at {word:#010x}");
         }
     }
+}
+
+#[test]
+fn assembled_words_decode_and_encode(rt: HostRuntime) {
+    decode_and_encode(&rt, &JUMPS);
+}
+
+#[test]
+fn loads_and_stores_decode_and_encode(rt: HostRuntime) {
+    decode_and_encode(&rt, &MEMORY);
+}
+
+#[test]
+fn words_with_immediates_decode_and_encode(rt: HostRuntime) {
+    decode_and_encode(&rt, &IMMEDIATES);
+}
+
+#[test]
+fn words_on_registers_decode_and_encode(rt: HostRuntime) {
+    decode_and_encode(&rt, &REGISTERS);
+}
+
+#[test]
+fn operations_on_words_decode_and_encode(rt: HostRuntime) {
+    decode_and_encode(&rt, &WORDS);
+}
+
+#[test]
+fn fences_and_calls_decode_and_encode(rt: HostRuntime) {
+    decode_and_encode(&rt, &SYSTEM);
 }
 
 // Words that stand in no row of the manual's table for RV64I.

@@ -15,6 +15,7 @@ use rv_emulator::machine::Machine;
 use rv_emulator::stops::Stop;
 use rv_isa::number::Reg;
 use std::alloc::Global;
+use std::process::Abort;
 
 // Adds a header of these words.
 fn put_header(bytes: &mut Bytes, words: &[u64]) -> Result<(), OutOfMemory> {
@@ -53,45 +54,50 @@ fn put_image(bytes: &mut Bytes, code: &[u32], labels: &[Pos]) -> Result<(), OutO
     Ok(())
 }
 
-// An image of this code and these labels. None where there is no such image, or no memory.
-pub(crate) fn image_of(alloc: Global, code: &[u32], labels: &[Pos]) -> Option<Image> {
+// The bytes of an image of this code and these labels.
+fn bytes_of(rt: &impl Abort, alloc: Global, code: &[u32], labels: &[Pos]) -> Bytes {
     let mut bytes = Bytes::new(alloc);
-    put_image(&mut bytes, code, labels).ok()?;
-    if is_image(bytes.as_slice()) {
-        Some(Image::new(bytes))
-    } else {
-        None
-    }
+    put_image(&mut bytes, code, labels).expect(rt, "memory");
+    bytes
+}
+
+// An image of this code and these labels.
+pub(crate) fn image_of(rt: &impl Abort, alloc: Global, code: &[u32], labels: &[Pos]) -> Image {
+    let bytes = bytes_of(rt, alloc, code, labels);
+    assert!(rt; is_image(bytes.as_slice()), "an image");
+    Image::new(bytes)
 }
 
 // A machine with this image, a region and a stack of these sizes and no input.
 pub(crate) fn machine_of(
+    rt: &impl Abort,
     alloc: Global,
     image: &Image,
     region: u64,
     stack: u64,
-) -> Result<Machine<FlatRam>, OutOfMemory>
+) -> Machine<FlatRam>
     requires region { IsRegionSize region }
     requires stack { IsStackSize stack }
 {
-    machine_on(alloc, image, region, stack, Bytes::new(alloc))
+    machine_on(rt, alloc, image, region, stack, Bytes::new(alloc))
 }
 
 // One with this input.
 fn machine_on(
+    rt: &impl Abort,
     alloc: Global,
     image: &Image,
     region: u64,
     stack: u64,
     input: Bytes,
-) -> Result<Machine<FlatRam>, OutOfMemory>
+) -> Machine<FlatRam>
     requires region { IsRegionSize region }
     requires stack { IsStackSize stack }
 {
     let size = image.loaded().len() as u64 + region + stack;
-    let ram = FlatRam::new(alloc, size)?;
+    let ram = FlatRam::new(alloc, size).expect(rt, "memory");
     let world = World::new(alloc, input);
-    Machine::load(alloc, image, ram, region, stack, world)
+    Machine::load(alloc, image, ram, region, stack, world).expect(rt, "memory")
 }
 
 pub(crate) fn ended(kind: AnswerKind, word: i64) -> Stop {
@@ -101,28 +107,27 @@ pub(crate) fn ended(kind: AnswerKind, word: i64) -> Stop {
 // The one label of small images.
 const LABEL: Pos = Pos { line: 3, col: 7 };
 
-// A machine with this code and these labels, a region and a stack of these sizes and no input. None where there is no
-// such image, or no memory.
+// A machine with this code and these labels, a region and a stack of these sizes and no input.
 fn machine_for(
+    rt: &impl Abort,
     alloc: Global,
     code: &[u32],
     labels: &[Pos],
     region: u64,
     stack: u64,
-) -> Option<Machine<FlatRam>>
+) -> Machine<FlatRam>
     requires region { IsRegionSize region }
     requires stack { IsStackSize stack }
 {
-    let image = image_of(alloc, code, labels)?;
-    machine_of(alloc, &image, region, stack).ok()
+    let image = image_of(rt, alloc, code, labels);
+    machine_of(rt, alloc, &image, region, stack)
 }
 
-// Whether this code, with one label, comes to this stop within 100 steps, and prints this text. None where there is no
-// such machine.
-fn comes_to(alloc: Global, code: &[u32], stop: Stop, printed: &[u8]) -> Option<bool> {
-    let mut machine = machine_for(alloc, code, &[LABEL], 16, 16)?;
+// Whether this code, with one label, comes to this stop within 100 steps, and prints this text.
+fn comes_to(rt: &impl Abort, alloc: Global, code: &[u32], stop: Stop, printed: &[u8]) -> bool {
+    let mut machine = machine_for(rt, alloc, code, &[LABEL], 16, 16);
     let came_to = machine.run(100);
-    Some(came_to == stop && machine.world().output.as_slice() == printed)
+    came_to == stop && machine.world().output.as_slice() == printed
 }
 
 // A code, what it comes to, and what it prints.
@@ -340,16 +345,31 @@ const ARITHMETIC: [Row; 6] = [
     ),
 ];
 
+// Each code comes to what its row says.
+fn come_to(rt: &impl Abort, alloc: Global, rows: &[Row]) {
+    for (code, stop, printed) in rows {
+        assert!(rt; comes_to(rt, alloc, code, *stop, printed), "{code:?}");
+    }
+}
+
 #[test]
 fn small_images_come_to_their_ends(rt: HostRuntime) {
-    for rows in [ANSWERS.as_slice(), &CALLS, &STOPS, &ARITHMETIC] {
-        for (code, stop, printed) in rows {
-            assert!(rt;
-                matches!(comes_to(rt.alloc(), code, *stop, printed), Some(true)),
-                "{code:?}"
-            );
-        }
-    }
+    come_to(&rt, rt.alloc(), &ANSWERS);
+}
+
+#[test]
+fn calls_come_to_their_ends(rt: HostRuntime) {
+    come_to(&rt, rt.alloc(), &CALLS);
+}
+
+#[test]
+fn steps_that_fail_come_to_their_ends(rt: HostRuntime) {
+    come_to(&rt, rt.alloc(), &STOPS);
+}
+
+#[test]
+fn arithmetic_comes_to_its_ends(rt: HostRuntime) {
+    come_to(&rt, rt.alloc(), &ARITHMETIC);
 }
 
 // How a machine stops after these many steps, with the pc and the number in x11.
@@ -375,16 +395,16 @@ fn goes_on(machine: &mut Machine<FlatRam>) -> bool {
     true
 }
 
-// The same of a new machine. None where no memory is left.
-fn smallest_goes_on(alloc: Global) -> Option<bool> {
-    let image = image_of_groups(alloc, &SMALLEST)?;
-    let mut machine = machine_of(alloc, &image, 16777216, 1048576).ok()?;
-    Some(goes_on(&mut machine))
+// The same of a new machine.
+fn smallest_goes_on(rt: &impl Abort, alloc: Global) -> bool {
+    let image = image_of_groups(rt, alloc, &SMALLEST);
+    let mut machine = machine_of(rt, alloc, &image, 16777216, 1048576);
+    goes_on(&mut machine)
 }
 
 #[test]
 fn a_run_goes_on(rt: HostRuntime) {
-    assert!(rt; matches!(smallest_goes_on(rt.alloc()), Some(true)));
+    assert!(&rt; smallest_goes_on(&rt, rt.alloc()));
 }
 
 // Whether each call 7 hands back a number and 0, or 0 and 1 where there is none, leaves the number of the call as it
@@ -409,28 +429,28 @@ fn reads(machine: &mut Machine<FlatRam>) -> bool {
     true
 }
 
-// The same of a new machine. None where no memory is left.
-fn new_machine_reads(alloc: Global) -> Option<bool> {
+// The same of a new machine.
+fn new_machine_reads(rt: &impl Abort, alloc: Global) -> bool {
     // addi x17, x0, 7; ecall; ecall; ecall
     let code = [0x00700893, 0x00000073, 0x00000073, 0x00000073];
-    let image = image_of(alloc, &code, &[])?;
-    let input = Bytes::from_slice(alloc, b"42 -1 x").ok()?;
-    let mut machine = machine_on(alloc, &image, 0, 0, input).ok()?;
-    Some(reads(&mut machine))
+    let image = image_of(rt, alloc, &code, &[]);
+    let input = Bytes::from_slice(alloc, b"42 -1 x").expect(rt, "memory");
+    let mut machine = machine_on(rt, alloc, &image, 0, 0, input);
+    reads(&mut machine)
 }
 
 #[test]
 fn call_7_reads(rt: HostRuntime) {
-    assert!(rt; matches!(new_machine_reads(rt.alloc()), Some(true)));
+    assert!(&rt; new_machine_reads(&rt, rt.alloc()));
 }
 
 // What a code comes to that writes the last word of a region of 64 MiB, reads it back and blames the label of that
-// number. None where there is no such machine.
-fn blames_from_a_large_region(alloc: Global, labels: &[Pos]) -> Option<Stop> {
+// number.
+fn blames_from_a_large_region(rt: &impl Abort, alloc: Global, labels: &[Pos]) -> Stop {
     // addi x5, x0, 2; sd x5, -8(x27); ld x10, -8(x27); addi x17, x0, 3; ecall
     let code = [0x00200293, 0xfe5dbc23, 0xff8db503, 0x00300893, 0x00000073];
-    let mut machine = machine_for(alloc, &code, labels, 67_108_864, 1_048_576)?;
-    Some(machine.run(100))
+    let mut machine = machine_for(rt, alloc, &code, labels, 67_108_864, 1_048_576);
+    machine.run(100)
 }
 
 #[test]
@@ -444,14 +464,14 @@ fn runs_with_several_labels_and_a_large_region(rt: HostRuntime) {
         (&[LABEL], Stop::Undefined(65552)),
     ];
     for (labels, stop) in rows {
-        assert!(rt; blames_from_a_large_region(rt.alloc(), labels) == Some(stop));
+        assert!(&rt; blames_from_a_large_region(&rt, rt.alloc(), labels) == stop);
     }
 }
 
-// The word that a machine with this code tells at an address. None where there is no such machine.
-fn word_at(alloc: Global, code: &[u32], at: u64) -> Option<Option<u64>> {
-    let machine = machine_for(alloc, code, &[LABEL], 16, 16)?;
-    Some(machine.word(at))
+// The word that a machine with this code tells at an address.
+fn word_at(rt: &impl Abort, alloc: Global, code: &[u32], at: u64) -> Option<u64> {
+    let machine = machine_for(rt, alloc, code, &[LABEL], 16, 16);
+    machine.word(at)
 }
 
 #[test]
@@ -464,6 +484,6 @@ fn tells_words(rt: HostRuntime) {
         (65568, Some(0)),
         (65576, None),
     ] {
-        assert!(rt; word_at(rt.alloc(), &code, at) == Some(word), "{at}");
+        assert!(&rt; word_at(&rt, rt.alloc(), &code, at) == word, "{at}");
     }
 }
