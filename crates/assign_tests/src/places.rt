@@ -1,6 +1,6 @@
 // Which places fit small codes, and the code that they make.
 
-ghost use Rattle.std.specs.Prelude.{◌≡◌, true, IfOk};
+ghost use Rattle.std.specs.Prelude.{◌≡◌, true};
 ghost use Rattle.rv_isa.specs.Bits.{IsBelow};
 ghost use Rattle.rv_select.specs.Fitting.{each_fits};
 
@@ -17,7 +17,7 @@ use rv_select::code::{Place, VReg, VirtualCode, VirtualItem, VirtualItems};
 use rv_select::selection::select;
 use rv_slots::slots::slots;
 use std::alloc::Global;
-use std::test::Fail;
+use std::process::Abort;
 
 // A real register.
 fn x(number: i64) -> VReg
@@ -39,19 +39,36 @@ fn v(number: u32) -> VReg {
 }
 
 // A code with so many virtual registers.
-fn code(alloc: Global, registers: u32, items: &[VirtualItem]) -> Result<VirtualCode, OutOfMemory> {
-    let items = VirtualItems::from_slice(alloc, items)?;
-    Ok(VirtualCode { items, registers })
+fn code(rt: &impl Abort, alloc: Global, registers: u32, items: &[VirtualItem]) -> VirtualCode {
+    let items = VirtualItems::from_slice(alloc, items).expect(rt, "memory");
+    VirtualCode { items, registers }
+}
+
+// These places.
+fn assignment(rt: &impl Abort, alloc: Global, places: &[Place]) -> Assignment {
+    let places = Places::from_slice(alloc, places).expect(rt, "memory");
+    Assignment { places }
 }
 
 // Whether these places fit a code.
-fn fits(alloc: Global, code: &VirtualCode, places: &[Place]) -> Result<bool, OutOfMemory> {
-    let places = Places::from_slice(alloc, places)?;
-    check(alloc, code, &Assignment { places })
+fn fits(rt: &impl Abort, alloc: Global, code: &VirtualCode, places: &[Place]) -> bool {
+    check(alloc, code, &assignment(rt, alloc, places)).expect(rt, "memory")
+}
+
+// Whether these places fit the code with so many virtual registers.
+fn fit_items(
+    rt: &impl Abort,
+    alloc: Global,
+    registers: u32,
+    items: &[VirtualItem],
+    places: &[Place],
+) -> bool {
+    let code = code(rt, alloc, registers, items);
+    fits(rt, alloc, &code, places)
 }
 
 #[test]
-fn two_values_that_live_beside_each_other_have_two_places(rt: HostRuntime) -> Result<(), Fail> {
+fn two_values_that_live_beside_each_other_have_two_places(rt: HostRuntime) {
     let alloc = rt.alloc();
     let items = [
         VirtualItem::Procedure(0, 0, 2),
@@ -60,7 +77,6 @@ fn two_values_that_live_beside_each_other_have_two_places(rt: HostRuntime) -> Re
         VirtualItem::Compute(WordOp::Add, x(10), v(0), v(1)),
         VirtualItem::Return,
     ];
-    let code = code(alloc, 2, &items)?;
     let rows = [
         (in_x(11), in_x(12), true),
         (in_x(11), in_x(11), false),
@@ -71,14 +87,13 @@ fn two_values_that_live_beside_each_other_have_two_places(rt: HostRuntime) -> Re
         (in_x(31), Place::Slot(0), false),
     ];
     for (first, second, fit) in rows {
-        assert!(rt; fits(alloc, &code, &[first, second])? == fit);
+        assert!(&rt; fit_items(&rt, alloc, 2, &items, &[first, second]) == fit);
     }
-    assert!(rt; !fits(alloc, &code, &[in_x(11)])?);
-    Ok(())
+    assert!(&rt; !fit_items(&rt, alloc, 2, &items, &[in_x(11)]));
 }
 
 #[test]
-fn a_call_spares_slots_alone(rt: HostRuntime) -> Result<(), Fail> {
+fn a_call_spares_slots_alone(rt: HostRuntime) {
     let alloc = rt.alloc();
     let items = [
         VirtualItem::Procedure(0, 0, 1),
@@ -87,15 +102,12 @@ fn a_call_spares_slots_alone(rt: HostRuntime) -> Result<(), Fail> {
         VirtualItem::Compute(WordOp::Add, x(10), x(10), v(0)),
         VirtualItem::Return,
     ];
-    let code = code(alloc, 1, &items)?;
-    assert!(rt; fits(alloc, &code, &[Place::Slot(0)])?);
-    assert!(rt; !fits(alloc, &code, &[in_x(11)])?);
-    Ok(())
+    assert!(&rt; fit_items(&rt, alloc, 1, &items, &[Place::Slot(0)]));
+    assert!(&rt; !fit_items(&rt, alloc, 1, &items, &[in_x(11)]));
 }
 
 #[test]
-fn each_way_to_a_read_counts(rt: HostRuntime) -> Result<(), Fail> {
-    let alloc = rt.alloc();
+fn each_way_to_a_read_counts(rt: HostRuntime) {
     let items = [
         VirtualItem::Procedure(0, 0, 1),
         VirtualItem::Branch(Cond::Eq, x(10), x(0), 1),
@@ -104,57 +116,90 @@ fn each_way_to_a_read_counts(rt: HostRuntime) -> Result<(), Fail> {
         VirtualItem::Move(x(10), v(0)),
         VirtualItem::Return,
     ];
-    let code = code(alloc, 1, &items)?;
-    assert!(rt; !fits(alloc, &code, &[Place::Slot(0)])?);
-    Ok(())
+    assert!(&rt; !fit_items(&rt, rt.alloc(), 1, &items, &[Place::Slot(0)]));
 }
 
-// The code of a program whose one procedure adds two words.
-fn sum(alloc: Global) -> Result<VirtualCode, Fail>
-    ensures { IfOk result (λ code. each_fits code.items ≡ true) }
-{
+// A code in a box, if there is memory for it.
+fn put_in_box(alloc: Global, code: LowCode) -> Result<Box<LowCode>, OutOfMemory> {
+    Ok(Box::new(alloc, code)?)
+}
+
+// A code in a box.
+fn in_box(rt: &impl Abort, alloc: Global, code: LowCode) -> Box<LowCode> {
+    put_in_box(alloc, code).expect(rt, "memory")
+}
+
+// Adds two words, and answers the sum.
+fn sum_of_words(rt: &impl Abort, alloc: Global) -> LowCode {
     let sum = LowCode::Compute(
         WordOp::Add,
         0,
         LowSource::Word(0),
         LowSource::Word(1),
-        Box::new(alloc, LowCode::Return(LowSource::Word(0)))?,
+        in_box(rt, alloc, LowCode::Return(LowSource::Word(0))),
     );
-    let second = LowCode::Set(1, LowSource::Number(22), Box::new(alloc, sum)?);
-    let code = LowCode::Set(0, LowSource::Number(20), Box::new(alloc, second)?);
-    let mut procs = LowProcs::new(alloc);
-    procs.push(LowProc {
+    let second = LowCode::Set(1, LowSource::Number(22), in_box(rt, alloc, sum));
+    LowCode::Set(0, LowSource::Number(20), in_box(rt, alloc, second))
+}
+
+// A program whose one procedure adds two words.
+fn sum_program(rt: &impl Abort, alloc: Global) -> LowProgram {
+    let proc = LowProc {
         params: 0,
         words: 2,
-        code,
-    })?;
-    let low = LowProgram {
+        code: sum_of_words(rt, alloc),
+    };
+    let mut procs = LowProcs::new(alloc);
+    procs.push(proc).expect(rt, "memory");
+    LowProgram {
         procs,
         entry: 0,
         statics: Statics::new(alloc),
-    };
-    if !low.is_closed() {
-        return Err(Fail::from("the program is not closed"));
     }
-    Ok(select(alloc, &low)?)
+}
+
+// The code of that program.
+fn sum(rt: &impl Abort, alloc: Global) -> VirtualCode
+    ensures { each_fits result.items ≡ true }
+{
+    let low = sum_program(rt, alloc);
+    assert!(rt; low.is_closed(), "the program is not closed");
+    select(alloc, &low).expect(rt, "memory")
+}
+
+// How many items a code has with these places, which have to fit, and have to make the code that `slots` makes.
+fn items_in_slots(rt: &impl Abort, alloc: Global, code: &VirtualCode, own: &Assignment) -> u64
+    requires { each_fits code.now.items ≡ true }
+{
+    let own_fit = check(alloc, code, own).expect(rt, "memory");
+    assert!(rt; own_fit);
+    let same = apply(alloc, code, own).expect(rt, "memory");
+    let with_slots = slots(alloc, code).expect(rt, "memory");
+    assert!(rt; same.items == with_slots.items);
+    same.items.len()
+}
+
+// How many items a code has with these places, which have to fit.
+fn items_in_registers(rt: &impl Abort, alloc: Global, code: &VirtualCode, real: &Assignment) -> u64
+    requires { each_fits code.now.items ≡ true }
+{
+    let real_fit = check(alloc, code, real).expect(rt, "memory");
+    assert!(rt; real_fit);
+    let short = apply(alloc, code, real).expect(rt, "memory");
+    short.items.len()
+}
+
+// How many items the code of the sum has in slots of its own, and in real registers.
+fn items_of_both(rt: &impl Abort, alloc: Global) -> (u64, u64) {
+    let code = sum(rt, alloc);
+    let own = assignment(rt, alloc, &[Place::Slot(0), Place::Slot(1)]);
+    let real = assignment(rt, alloc, &[in_x(11), in_x(12)]);
+    let in_slots = items_in_slots(rt, alloc, &code, &own);
+    (in_slots, items_in_registers(rt, alloc, &code, &real))
 }
 
 #[test]
-fn code_with_real_registers_is_shorter(rt: HostRuntime) -> Result<(), Fail> {
-    let alloc = rt.alloc();
-    let code = sum(alloc)?;
-    let with_slots = slots(alloc, &code)?;
-    let own = Places::from_slice(alloc, &[Place::Slot(0), Place::Slot(1)])?;
-    let own = Assignment { places: own };
-    let own_fit = check(alloc, &code, &own)?;
-    assert!(rt; own_fit);
-    let same = apply(alloc, &code, &own)?;
-    assert!(rt; same.items == with_slots.items);
-    let real = Places::from_slice(alloc, &[in_x(11), in_x(12)])?;
-    let real = Assignment { places: real };
-    let real_fit = check(alloc, &code, &real)?;
-    assert!(rt; real_fit);
-    let short = apply(alloc, &code, &real)?;
-    assert!(rt; short.items.len() + 5 == same.items.len());
-    Ok(())
+fn code_with_real_registers_is_shorter(rt: HostRuntime) {
+    let (in_slots, in_registers) = items_of_both(&rt, rt.alloc());
+    assert!(rt; in_registers.wrapping_add(5) == in_slots);
 }
