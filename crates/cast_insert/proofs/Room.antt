@@ -34,6 +34,11 @@ pub grows_last : {A E : Type 0} (result : Result A E) (a b c : TypeRows) → Gro
 grows_last (Ok answer) a b c f g = grows_on a b c f g
 grows_last (Err fault) a b c f g = g
 
+-- what holds anyway holds where a call has an answer
+pub on_ok : {A E P : Type 0} (result : Result A E) → P → OnOk result P
+on_ok (Ok answer) h = h
+on_ok (Err fault) h = tt
+
 pub more_grows : (a b : TypeRows) → IsOrderedTable a → HasMoreRows a b → Grows a b
 more_grows a b table more = record {
   kept = λ type within. (later_within a b type more within, height_grown a b table.finite more type within);

@@ -1,4 +1,4 @@
-use Rattle.std.proofs.Common.{rules, arith, ◌≡◌, ◌∷◌, sym, ap, ◌∙◌, [], ◌++◌, subst}
+use Rattle.std.proofs.Common.{rules, arith, ◌≡◌, ◌∷◌, refl, sym, ap, ◌∙◌, [], ◌++◌, subst}
 use Rattle.core_calc.specs.Terms.{NoTerms, term_list, binding_list}
 use Rattle.core_calc.specs.Views.{term_of, terms_of, bindings_of}
 use Rattle.surface_trees.specs.Trees.{NoExprs, ExprThen, IfNode, LetThen, LetrecThen}
@@ -14,7 +14,8 @@ use Rattle.grift_base.specs.declared.places.TypeId.{TypeId}
 use Rattle.cast_insert.specs.Views.{typed_of, work_of, meaning_seen, place_if, Answers}
 use Rattle.cast_insert.proofs.Loops.{failed_as, sequence_refused, sequence_last, sequence_more, bindings_more}
 use Rattle.cast_insert.specs.Programs.{IsSourceBody, AreSourceBindings, AreSourceMembers}
-use Rattle.cast_insert.proofs.Room.{body_first, body_rest, grows_last, grows_on}
+use Rattle.cast_insert.proofs.Room.{body_first, body_rest, grows_last, grows_on, on_ok}
+use Rattle.core_calc.specs.Views.{members_of}
 use Rattle.cast_insert.proofs.Loops.{if_first, if_second, if_joined, loop_steps, failed_first, made_first, made_then}
 use Rattle.std.proofs.lemmas.List.{map-append}
 use Rattle.surface_trees.specs.declared.names.Ident.{Ident}
@@ -300,3 +301,155 @@ if_form-returns-in_err-truth-clause-answer t c =
     rw c.in-If.is (made_first typed_of _ _ _ _ _ _ (rw c.deref.ensures at c.in_ok-test.ensures.answer)
     (failed_first c.in_err-truth.field-0.0 typed_of typed_of _ _ _ _ (search rules)
     (rw c.deref-2.ensures at c.in_err-truth.ensures.answer)))
+
+-- ---- an expression, and its node
+
+pub elaborate-returns-in_err-typed-clause-answer : goal.elaborate-returns-in_err-typed-clause-answer
+elaborate-returns-in_err-typed-clause-answer t c =
+    failed_first c.in_err-typed.field-0.0 typed_of typed_of _ _ _ _ (search rules) c.in_err-typed.ensures.answer
+
+pub elaborate-returns-in_err-not_too_large-clause-answer : goal.elaborate-returns-in_err-not_too_large-clause-answer
+elaborate-returns-in_err-not_too_large-clause-answer t c =
+    made_first typed_of _ _ _ _ _ _ c.in_ok-typed.ensures.answer
+    (failed_first c.in_err-not_too_large.field-0.0 _ typed_of _ _ _ _ (search rules)
+    c.in_err-not_too_large.ensures.answer)
+
+pub elaborate-returns-clause-answer : goal.elaborate-returns-clause-answer
+elaborate-returns-clause-answer t c =
+    made_then _ _ _ _ _ c.in_ok-typed.ensures.answer (made_then _ _ _ _ _ c.in_ok-not_too_large.ensures.answer refl)
+
+pub node-returns-in-Bool-clause-answer : goal.node-returns-in-Bool-clause-answer
+node-returns-in-Bool-clause-answer t c = rw c.in-Bool.is c.literal-in-Bool.ensures.answer
+
+pub node-returns-in-Unit-clause-answer : goal.node-returns-in-Unit-clause-answer
+node-returns-in-Unit-clause-answer t c = rw c.in-Unit.is c.literal-in-Unit.ensures.answer
+
+pub node-returns-in-Name-clause-answer : goal.node-returns-in-Name-clause-answer
+node-returns-in-Name-clause-answer t c = rw c.in-Name.is (rw c.find.ensures at c.used.ensures.answer)
+
+pub node-returns-in-Lambda-clause-answer : goal.node-returns-in-Lambda-clause-answer
+node-returns-in-Lambda-clause-answer t c = rw c.in-Lambda.is c.lambda.ensures.answer
+
+pub node-returns-in-Let-clause-answer : goal.node-returns-in-Let-clause-answer
+node-returns-in-Let-clause-answer t c = c.let_form.ensures.answer c.args.pos
+
+pub node-returns-in-Letrec-clause-answer : goal.node-returns-in-Letrec-clause-answer
+node-returns-in-Letrec-clause-answer t c = c.letrec_form.ensures.answer c.args.pos
+
+pub node-returns-in-If-clause-answer : goal.node-returns-in-If-clause-answer
+node-returns-in-If-clause-answer t c = c.if_form.ensures.answer
+
+pub node-returns-in-Ascribe-clause-answer : goal.node-returns-in-Ascribe-clause-answer
+node-returns-in-Ascribe-clause-answer t c =
+    rw c.in-Ascribe.is (rw c.deref-in-Ascribe.ensures at c.ascribed.ensures.answer)
+
+-- ---- a `let` and a `letrec`
+
+pub let_form-returns-clause-answer : goal.let_form-returns-clause-answer
+let_form-returns-clause-answer t c = λ place.
+    rw c.in-Let.is (made_then _ _ _ _ _ c.in_ok-bound.ensures.answer (made_then _ _ _ _ _
+    (rw (c.as_slice.ensures.value, c.in_ok-bound.ensures.scopes) at c.in_ok-done.ensures.answer)
+    (ap (λ (e : Typed). Makes e (work_of c.body.new.progress)) (sym c.in_ok-let_term.ensures))))
+
+pub let_form-returns-clause-scopes : goal.let_form-returns-clause-scopes
+let_form-returns-clause-scopes t c = c.in_ok-done.ensures.scopes ∙ c.in_ok-bound.ensures.scopes
+
+pub let_form-returns-clause-grows : goal.let_form-returns-clause-grows
+let_form-returns-clause-grows t c = grows_on _ _ _ c.in_ok-bound.ensures.grows c.in_ok-done.ensures.grows
+
+pub letrec_form-returns-in_err-heads-clause-answer : goal.letrec_form-returns-in_err-heads-clause-answer
+letrec_form-returns-in_err-heads-clause-answer t c = λ place.
+    rw c.in-Letrec.is (failed_first c.in_err-heads.field-0.0 _ typed_of _ _ _ _ (search rules)
+    c.in_err-heads.ensures.heads)
+
+pub letrec_form-returns-in_err-group-clause-answer : goal.letrec_form-returns-in_err-group-clause-answer
+letrec_form-returns-in_err-group-clause-answer t c = λ place.
+    rw c.in-Letrec.is (made_first typed_of _ _ _ _ _ _ c.in_ok-heads.ensures.heads
+    (failed_first c.in_err-group.field-0.0 members_of typed_of _ _ _ _ (search rules)
+    (rw (c.as_slice.ensures.value, c.in_ok-heads.ensures.scopes) at c.in_err-group.ensures.answer)))
+
+pub letrec_form-returns-in_err-done-clause-answer : goal.letrec_form-returns-in_err-done-clause-answer
+letrec_form-returns-in_err-done-clause-answer t c = λ place.
+    rw c.in-Letrec.is (made_first typed_of _ _ _ _ _ _ c.in_ok-heads.ensures.heads
+    (made_first typed_of _ _ _ _ _ _
+    (rw (c.as_slice.ensures.value, c.in_ok-heads.ensures.scopes) at c.in_ok-group.ensures.answer)
+    (failed_first c.in_err-done.field-0.0 sequence_of typed_of _ _ _ _ (search rules)
+    (rw (c.in_ok-group.ensures.scopes, c.in_ok-heads.ensures.scopes) at c.in_err-done.ensures.answer))))
+
+pub letrec_form-returns-clause-answer : goal.letrec_form-returns-clause-answer
+letrec_form-returns-clause-answer t c = λ place.
+    rw c.in-Letrec.is (made_then _ _ _ _ _ c.in_ok-heads.ensures.heads (made_then _ _ _ _ _
+    (rw (c.as_slice.ensures.value, c.in_ok-heads.ensures.scopes) at c.in_ok-group.ensures.answer)
+    (made_then _ _ _ _ _
+    (rw (c.in_ok-group.ensures.scopes, c.in_ok-heads.ensures.scopes) at c.in_ok-done.ensures.answer)
+    (ap (λ (e : Typed). Makes e (work_of c.in_order.new.progress)) (sym c.in_ok-group_term.ensures)))))
+
+pub letrec_form-returns-clause-grows : goal.letrec_form-returns-clause-grows
+letrec_form-returns-clause-grows t c =
+    grows_on _ _ _ c.in_ok-heads.ensures.grows (grows_on _ _ _ c.in_ok-group.ensures.grows c.in_ok-done.ensures.grows)
+
+-- ---- tables that grow, and scopes that stay
+
+pub ascribed-returns-clause-grows : goal.ascribed-returns-clause-grows
+ascribed-returns-clause-grows t c =
+    grows_last c.cast_to.result _ _ _ (grows_on _ _ _ c.in_ok-e.ensures.grows c.in_ok-ty.ensures.grows)
+    c.cast_to.ensures.grows
+
+pub operation-returns-clause-grows : goal.operation-returns-clause-grows
+operation-returns-clause-grows t c =
+    grows_last c.operated.result _ _ _ c.in_ok-given.ensures.grows c.operated.ensures.grows
+
+pub if_form-returns-clause-grows : goal.if_form-returns-clause-grows
+if_form-returns-clause-grows t c =
+    grows_last c.joined.result _ _ _ (grows_on _ _ _ (grows_on _ _ _ c.in_ok-test.ensures.grows
+    c.in_ok-truth.ensures.grows) (grows_on _ _ _ c.in_ok-first.ensures.grows c.in_ok-second.ensures.grows))
+    c.joined.ensures.grows
+
+pub if_form-returns-clause-scopes : goal.if_form-returns-clause-scopes
+if_form-returns-clause-scopes t c =
+    on_ok c.joined.result (c.in_ok-second.ensures.scopes ∙ c.in_ok-first.ensures.scopes ∙ c.in_ok-test.ensures.scopes)
+
+pub lambda_body-returns-clause-grows : goal.lambda_body-returns-clause-grows
+lambda_body-returns-clause-grows t c =
+    grows_last c.closed.result _ _ _ c.in_ok-done.ensures.grows c.closed.ensures.grows
+
+pub all-returns-clause-grows : goal.all-returns-clause-grows
+all-returns-clause-grows t c = grows_on _ _ _ c.in_ok-e.ensures.grows c.in_ok-given.ensures.grows
+
+pub all-returns-clause-scopes : goal.all-returns-clause-scopes
+all-returns-clause-scopes t c = c.in_ok-given.ensures.scopes ∙ c.in_ok-e.ensures.scopes
+
+pub each-returns-clause-grows : goal.each-returns-clause-grows
+each-returns-clause-grows t c =
+    grows_on _ _ _ c.in_ok-e.ensures.grows
+    (grows_on _ _ _ c.in_ok-argument.ensures.grows c.in_ok-others.ensures.grows)
+
+pub each-returns-clause-scopes : goal.each-returns-clause-scopes
+each-returns-clause-scopes t c = c.in_ok-others.ensures.scopes ∙ c.in_ok-e.ensures.scopes
+
+pub operands-returns-clause-grows : goal.operands-returns-clause-grows
+operands-returns-clause-grows t c =
+    grows_on _ _ _ c.in_ok-e.ensures.grows (grows_on _ _ _ c.in_ok-one.ensures.grows c.in_ok-others.ensures.grows)
+
+pub operands-returns-clause-scopes : goal.operands-returns-clause-scopes
+operands-returns-clause-scopes t c = c.in_ok-others.ensures.scopes ∙ c.in_ok-e.ensures.scopes
+
+pub lambda-returns-clause-grows : goal.lambda-returns-clause-grows
+lambda-returns-clause-grows t c =
+    grows_last c.lambda_body.result _ _ _ (grows_on _ _ _ c.in_ok-types.ensures.grows
+    (grows_on _ _ _ c.in_ok-wanted.ensures.grows c.in_ok-names.ensures.grows)) c.lambda_body.ensures.grows
+
+pub member-returns-clause-grows : goal.member-returns-clause-grows
+member-returns-clause-grows t c =
+    grows_last c.member_body.result _ _ _ (grows_on _ _ _ c.in_ok-names.ensures.grows c.in_ok-done.ensures.grows)
+    c.member_body.ensures.grows
+
+-- ---- a body
+
+pub body-returns-in_err-done-clause-answer : goal.body-returns-in_err-done-clause-answer
+body-returns-in_err-done-clause-answer t c =
+    failed_as c.in_err-done.field-0.0 sequence_of sequence_of _ _ _ _ (search rules)
+    (rw c.in_ok-enter.ensures at c.in_err-done.ensures.answer) (λ kind place last refused. refused)
+
+pub body-returns-clause-answer : goal.body-returns-clause-answer
+body-returns-clause-answer t c = rw c.in_ok-enter.ensures at c.in_ok-done.ensures.answer
