@@ -12,7 +12,9 @@ use machine_words::conditions::Cond;
 use reg_assign::apply::apply;
 use reg_assign::assignment::{Assignment, Places};
 use reg_assign::check::check;
+use rv_isa::inst::encode;
 use rv_isa::number::Reg;
+use rv_machine::real::RealItem;
 use rv_select::code::{Place, VReg, VirtualCode, VirtualItem, VirtualItems};
 use rv_select::selection::select;
 use rv_slots::slots::slots;
@@ -167,6 +169,27 @@ fn sum(rt: &impl Abort, alloc: Global) -> VirtualCode
     select(alloc, &low).expect(rt, "memory")
 }
 
+// Whether two items are the same, instructions by their words.
+fn is_same(one: &RealItem, other: &RealItem) -> bool {
+    match (*one, *other) {
+        (RealItem::Op(i), RealItem::Op(j)) => encode(i) == encode(j),
+        (RealItem::Mark(i), RealItem::Mark(j)) => i == j,
+        (RealItem::Jump(r, i), RealItem::Jump(s, j)) => (r, i) == (s, j),
+        (RealItem::Branch(c, r, s, i), RealItem::Branch(d, t, u, j)) => (c, r, s, i)
+            == (d, t, u, j),
+        (RealItem::Address(r, i), RealItem::Address(s, j)) => (r, i) == (s, j),
+        _ => false,
+    }
+}
+
+fn are_same(one: &[RealItem], other: &[RealItem]) -> bool {
+    one.len() == other.len()
+        && one
+            .iter()
+            .zip(other)
+            .all(|(item, same)| is_same(item, same))
+}
+
 // How many items a code has with these places, which have to fit, and have to make the code that `slots` makes.
 fn items_in_slots(rt: &impl Abort, alloc: Global, code: &VirtualCode, own: &Assignment) -> u64
     requires { each_fits code.now.items ≡ true }
@@ -175,7 +198,7 @@ fn items_in_slots(rt: &impl Abort, alloc: Global, code: &VirtualCode, own: &Assi
     assert!(rt; own_fit);
     let same = apply(alloc, code, own).expect(rt, "memory");
     let with_slots = slots(alloc, code).expect(rt, "memory");
-    assert!(rt; same.items == with_slots.items);
+    assert!(rt; are_same(same.items.as_slice(), with_slots.items.as_slice()));
     same.items.len()
 }
 
