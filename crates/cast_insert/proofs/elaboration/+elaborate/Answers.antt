@@ -14,7 +14,9 @@ use Rattle.grift_base.specs.declared.places.TypeId.{TypeId}
 use Rattle.cast_insert.specs.Views.{typed_of, work_of, meaning_seen, place_if, Answers}
 use Rattle.cast_insert.proofs.Loops.{failed_as, sequence_refused, sequence_last, sequence_more, bindings_more}
 use Rattle.cast_insert.specs.Programs.{IsSourceBody, AreSourceBindings, AreSourceMembers}
-use Rattle.cast_insert.proofs.Room.{body_first, body_rest, grows_last, grows_on, on_ok}
+use Rattle.std.proofs.lemmas.Result.{IfOk-equal}
+use Rattle.cast_insert.proofs.Room.{body_first, body_rest, grows_last, grows_on, may_part_later, on_ok, part_later}
+use Rattle.cast_insert.proofs.Room.{parts_later}
 use Rattle.core_calc.specs.Views.{members_of}
 use Rattle.cast_insert.proofs.Loops.{if_first, if_second, if_joined, loop_steps, failed_first, made_first, made_then}
 use Rattle.std.proofs.lemmas.List.{map-append}
@@ -453,3 +455,77 @@ body-returns-in_err-done-clause-answer t c =
 
 pub body-returns-clause-answer : goal.body-returns-clause-answer
 body-returns-clause-answer t c = rw c.in_ok-enter.ensures at c.in_ok-done.ensures.answer
+
+-- ---- calls and projections, steps whose tables grow, and parts that stay parts
+
+pub node-returns-in_err-f-in-Call-clause-answer : goal.node-returns-in_err-f-in-Call-clause-answer
+node-returns-in_err-f-in-Call-clause-answer t c =
+    rw c.in-Call.is (failed_first c.in_err-f-in-Call.field-0.0 typed_of typed_of _ _ _ _ (search rules)
+    (rw c.deref.ensures at c.in_err-f-in-Call.ensures.answer))
+
+pub node-returns-in_ok-f-in-Call-clause-answer : goal.node-returns-in_ok-f-in-Call-clause-answer
+node-returns-in_ok-f-in-Call-clause-answer t c =
+    rw c.in-Call.is (made_first typed_of _ _ _ _ _ _ (rw c.deref.ensures at c.in_ok-f-in-Call.ensures.answer)
+    (made_first typed_of _ _ _ _ _ _ refl
+    (rw (c.deref-in-Call.ensures, c.in_ok-f-in-Call.ensures.scopes) at c.call.ensures.answer)))
+
+pub node-returns-in_ok-f-in-Call-clause-scopes : goal.node-returns-in_ok-f-in-Call-clause-scopes
+node-returns-in_ok-f-in-Call-clause-scopes t c =
+    IfOk-equal c.call.result _ _ _ c.call.ensures.scopes c.in_ok-f-in-Call.ensures.scopes
+
+pub node-returns-in_ok-f-in-Call-clause-grows : goal.node-returns-in_ok-f-in-Call-clause-grows
+node-returns-in_ok-f-in-Call-clause-grows t c =
+    grows_last c.call.result _ _ _ c.in_ok-f-in-Call.ensures.grows c.call.ensures.grows
+
+pub node-returns-in_err-e-in-Proj-clause-answer : goal.node-returns-in_err-e-in-Proj-clause-answer
+node-returns-in_err-e-in-Proj-clause-answer t c =
+    rw c.in-Proj.is (failed_first c.in_err-e-in-Proj.field-0.0 typed_of typed_of _ _ _ _ (search rules)
+    (rw c.deref-in-Proj.ensures at c.in_err-e-in-Proj.ensures.answer))
+
+pub node-returns-in_ok-e-in-Proj-clause-scopes : goal.node-returns-in_ok-e-in-Proj-clause-scopes
+node-returns-in_ok-e-in-Proj-clause-scopes t c = on_ok c.projected.result c.in_ok-e-in-Proj.ensures.scopes
+
+pub node-returns-in_ok-e-in-Proj-clause-grows : goal.node-returns-in_ok-e-in-Proj-clause-grows
+node-returns-in_ok-e-in-Proj-clause-grows t c =
+    grows_last c.projected.result _ _ _ c.in_ok-e-in-Proj.ensures.grows c.projected.ensures.grows
+
+pub call-returns-in_ok-plain-in-Fun-clause-grows : goal.call-returns-in_ok-plain-in-Fun-clause-grows
+call-returns-in_ok-plain-in-Fun-clause-grows t c = c.in_ok-terms-in-Fun.ensures.grows
+
+pub call-returns-in_ok-plain-in-Fun-clause-scopes : goal.call-returns-in_ok-plain-in-Fun-clause-scopes
+call-returns-in_ok-plain-in-Fun-clause-scopes t c = c.in_ok-terms-in-Fun.ensures.scopes
+
+pub call-returns-in_ok-given-in-Dyn-clause-grows : goal.call-returns-in_ok-given-in-Dyn-clause-grows
+call-returns-in_ok-given-in-Dyn-clause-grows t c =
+    grows_last c.called_dyn.result _ _ _ c.in_ok-given-in-Dyn.ensures.grows c.called_dyn.ensures.grows
+
+pub call-returns-in_ok-given-in-Dyn-clause-scopes : goal.call-returns-in_ok-given-in-Dyn-clause-scopes
+call-returns-in_ok-given-in-Dyn-clause-scopes t c = on_ok c.called_dyn.result c.in_ok-given-in-Dyn.ensures.scopes
+
+pub in_order-returns-in-Nil-clause-grows : goal.in_order-returns-in-Nil-clause-grows
+in_order-returns-in-Nil-clause-grows t c = grows_on _ _ _ c.loop-left.invariant.grows c.in_ok-e.ensures.grows
+
+pub elaborate-returns-clause-grows : goal.elaborate-returns-clause-grows
+elaborate-returns-clause-grows t c = c.in_ok-typed.ensures.grows
+
+pub body-returns-clause-grows : goal.body-returns-clause-grows
+body-returns-clause-grows t c = c.in_ok-done.ensures.grows
+
+pub begin_form-returns-clause-grows : goal.begin_form-returns-clause-grows
+begin_form-returns-clause-grows t c = c.in_ok-done.ensures.grows
+
+pub ascribed-returns-clause-scopes : goal.ascribed-returns-clause-scopes
+ascribed-returns-clause-scopes t c = on_ok c.cast_to.result c.in_ok-e.ensures.scopes
+
+pub member-returns-clause-scopes : goal.member-returns-clause-scopes
+member-returns-clause-scopes t c = on_ok c.member_body.result c.in_ok-done.ensures.scopes
+
+pub bindings-cast_if-requires-clause-e : goal.bindings-cast_if-requires-clause-e
+bindings-cast_if-requires-clause-e t c = part_later _ _ _ c.in_ok-wanted.ensures.grows c.in_ok-e.ensures.part
+
+pub lambda_body-closed-requires-clause-types : goal.lambda_body-closed-requires-clause-types
+lambda_body-closed-requires-clause-types t c = parts_later _ _ _ c.in_ok-done.ensures.grows c.requires.types
+
+pub operands-fitted-requires-clause-content : goal.operands-fitted-requires-clause-content
+operands-fitted-requires-clause-content t c =
+    may_part_later _ _ (place_if c.args.content) c.in_ok-e.ensures.grows c.requires.content
