@@ -17,20 +17,20 @@ fn audited(alloc: Global, text: &[u8]) -> Result<Text, Fail> {
 }
 
 // Whether these are the lines of the audit of a source.
-fn is_audit(alloc: Global, source: &str, lines: &str) -> bool {
-    match audited(alloc, source.as_bytes()) {
-        Ok(text) => text.as_slice() == lines.as_bytes(),
-        Err(_) => false,
-    }
+fn is_audit(alloc: Global, source: &str, lines: &str) -> Result<bool, Fail> {
+    let text = audited(alloc, source.as_bytes())?;
+    Ok(text.as_slice() == lines.as_bytes())
 }
 
 // Sources, and the lines of their audits.
 type Audits = &'static [(&'static str, &'static str)];
 
-fn are_audits(rt: &impl Abort, alloc: Global, audits: Audits) {
+// Each source has the lines that its row tells.
+fn are_audits(rt: &impl Abort, alloc: Global, audits: Audits) -> Result<(), Fail> {
     for (source, lines) in audits {
-        assert!(rt; is_audit(alloc, source, lines), "{source}");
+        assert!(rt; is_audit(alloc, source, lines)?, "{source}");
     }
+    Ok(())
 }
 
 const SAFE: Audits = &[
@@ -57,8 +57,8 @@ const SAFE: Audits = &[
 ];
 
 #[test]
-fn safe_labels_are_listed(rt: HostRuntime) {
-    are_audits(&rt, rt.alloc(), SAFE);
+fn safe_labels_are_listed(rt: HostRuntime) -> Result<(), Fail> {
+    are_audits(&rt, rt.alloc(), SAFE)
 }
 
 // A label that stands more than once is safe where each of its casts goes up and no part has it.
@@ -79,8 +79,8 @@ const REPEATED: Audits = &[
 ];
 
 #[test]
-fn labels_may_stand_more_than_once(rt: HostRuntime) {
-    are_audits(&rt, rt.alloc(), REPEATED);
+fn labels_may_stand_more_than_once(rt: HostRuntime) -> Result<(), Fail> {
+    are_audits(&rt, rt.alloc(), REPEATED)
 }
 
 // Labels stand in the order in which the elaboration comes to them, an inner cast before the one around it.
@@ -97,6 +97,6 @@ const ORDERED: Audits = &[
 ];
 
 #[test]
-fn labels_stand_in_the_order_of_their_table(rt: HostRuntime) {
-    are_audits(&rt, rt.alloc(), ORDERED);
+fn labels_stand_in_the_order_of_their_table(rt: HostRuntime) -> Result<(), Fail> {
+    are_audits(&rt, rt.alloc(), ORDERED)
 }

@@ -1,5 +1,5 @@
 use Rattle.machine_tests.proofs.Samples.{two_items}
 use Rattle.machine_tests.proofs.code.two_instructions.Goals as goal
 
-pub placed-requires : goal.placed-requires
-placed-requires c = rw c.set.ensures two_items
+pub placed-image-requires : goal.placed-image-requires
+placed-image-requires t c = rw c.set.ensures two_items
