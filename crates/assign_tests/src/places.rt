@@ -171,13 +171,14 @@ fn sum(rt: &impl Abort, alloc: Global) -> VirtualCode
 
 // Whether two items are the same, instructions by their words.
 fn is_same(one: &RealItem, other: &RealItem) -> bool {
-    match (*one, *other) {
-        (RealItem::Op(i), RealItem::Op(j)) => encode(i) == encode(j),
+    match (one, other) {
+        (RealItem::Op(i), RealItem::Op(j)) => encode(*i) == encode(*j),
         (RealItem::Mark(i), RealItem::Mark(j)) => i == j,
-        (RealItem::Jump(r, i), RealItem::Jump(s, j)) => (r, i) == (s, j),
-        (RealItem::Branch(c, r, s, i), RealItem::Branch(d, t, u, j)) => (c, r, s, i)
-            == (d, t, u, j),
-        (RealItem::Address(r, i), RealItem::Address(s, j)) => (r, i) == (s, j),
+        (RealItem::Jump(r, i), RealItem::Jump(s, j)) => r == s && i == j,
+        (RealItem::Branch(c, r, s, i), RealItem::Branch(d, t, u, j)) => {
+            c == d && r == t && s == u && i == j
+        }
+        (RealItem::Address(r, i), RealItem::Address(s, j)) => r == s && i == j,
         _ => false,
     }
 }
