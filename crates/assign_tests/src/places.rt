@@ -12,12 +12,12 @@ use machine_words::conditions::Cond;
 use reg_assign::apply::apply;
 use reg_assign::assignment::{Assignment, Places};
 use reg_assign::check::check;
+use reg_assign::slots::slots;
 use rv_isa::inst::encode;
 use rv_isa::number::Reg;
 use rv_machine::real::RealItem;
 use rv_select::code::{Place, VReg, VirtualCode, VirtualItem, VirtualItems};
 use rv_select::selection::select;
-use rv_slots::slots::slots;
 use std::alloc::Global;
 use std::process::Abort;
 

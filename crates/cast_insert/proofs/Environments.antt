@@ -79,16 +79,6 @@ abbrev pub HaveRows : TypeRows → Environment → Type 0
 HaveRows types [] = Unit {0}
 HaveRows types (entry ∷ rest) = (entry.1.type < length types) × MayHaveRow types entry.1.written × HaveRows types rest
 
-pub rows_later : (types others : TypeRows) (entries : Environment) → HasMoreRows types others → HaveRows types entries
-    → HaveRows others entries
-rows_later types others [] more h = tt
-rows_later types others (entry ∷ rest) more h = (
-  later_within types others entry.1.type more h.0,
-  may_later types others entry.1.written more h.1,
-  rows_later types
-      others rest more h.2,
-)
-
 pub rising_within : (first last : ℕ) (entries : Environment) → Rising first last entries → first ≤ last
 rising_within first last [] h = h
 rising_within first last (entry ∷ rest) h = let r = rising_within (suc entry.1.variable) last rest h.1 in let a = h.0

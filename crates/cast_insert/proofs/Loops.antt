@@ -273,26 +273,6 @@ bindings_done done names environment work whole so_far =
 abbrev pub members_behind : List Member → Made Members → Made Members
 members_behind done made = made_as (members_onto done) made
 
-pub members_more : (done : List Member) (name : Ident) (own : Option TypeExpr) (lambda : LambdaExpr)
-    (rest : LetrecMembers) (head : Head) (heads : List Head) (environment : Environment) (member : MemberBody)
-    (work next : Work) (whole : Made Members) → elaborate_member lambda head environment work ≡ Makes member next →
-    members_behind done (elaborate_members (LetrecThen name own lambda rest) (head ∷ heads) environment work) ≡ whole →
-    members_behind (record {
-      name = head.meaning.variable;
-      parameters = member.variables;
-      body = member.body;
-      type = head.meaning.type;
-    } ∷ done) (elaborate_members rest heads environment next) ≡ whole
-unfolding then_make
-members_more done name own lambda rest head heads environment member work next whole made so_far =
-    sym (made_as_twice (members_onto done)
-    (MemberThen head.meaning.variable member.variables member.body head.meaning.type)
-    (elaborate_members rest heads environment next))
-    ∙ sym (ap (λ m. members_behind done (then_make m (λ (member : MemberBody) work.
-    then_make (elaborate_members rest heads environment work) (λ others work.
-    Makes (MemberThen head.meaning.variable member.variables member.body head.meaning.type others) work)))) made)
-    ∙ so_far
-
 pub members_refused : (done : List Member) (name : Ident) (own : Option TypeExpr) (lambda : LambdaExpr)
     (rest : LetrecMembers) (head : Head) (heads : List Head) (environment : Environment) (work : Work)
     (whole : Made Members) (kind : RefusalKind) (place : Pos) (last : Work) →

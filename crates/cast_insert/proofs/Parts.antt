@@ -1,5 +1,5 @@
 -- Uses of names, calls and projections, where the parts are elaborated.
-use Rattle.std.proofs.Common.{◌≡◌, ℕ, ℤ, pos, negsuc, ◌<◌, ◌≤◌, List, [], ◌∷◌, ◌++◌, length, Option, Some, None, refl}
+use Rattle.std.proofs.Common.{◌≡◌, ℕ, ℤ, pos, negsuc, ◌<◌, ◌≤◌, List, [], ◌∷◌, length, Option, Some, None, refl}
 use Rattle.std.proofs.Common.{sym, subst, arith, slice_get}
 use Rattle.std.specs.Prelude.{nat_eq}
 use Rattle.std.proofs.lemmas.Bool.{eqb-true}
@@ -14,7 +14,7 @@ use Rattle.cast_insert.specs.Making.{Work, Making, PartOf, Typed, typed}
 use Rattle.cast_insert.specs.Environments.{Meaning, use_as, use_at}
 use Rattle.cast_insert.specs.Calls.{Given, call_by, part_by, project_by}
 use Rattle.cast_insert.proofs.Forming.{no_rows, rows_joined, one_row, row_within, parts_within, split_last}
-use Rattle.cast_insert.proofs.Fresh.{AreFresh, no_names, append_names, widen_names}
+use Rattle.cast_insert.proofs.Fresh.{no_names, append_names, widen_names}
 use Rattle.cast_insert.proofs.Works.{Keeps, then_keeps, keeps_more, keeps_if, Grown, grown_on, IsTyped, later, AreTyped}
 use Rattle.cast_insert.proofs.Works.{later_all, FormsRow, row_formed, MakesLabel, label_made, ListsEntry, entry_listed}
 use Rattle.cast_insert.proofs.Works.{CastsTo, cast_made, Casts, MayHaveRow, not_grown}
@@ -82,10 +82,6 @@ use_keeps place context work (Some meaning) table fits =
     ))
 
 -- ---- calls
-
-pub join_names : (a b c d : ℕ) (xs ys : List ℕ) → b ≤ c → AreFresh a b xs → AreFresh c d ys → AreFresh a d (xs ++ ys)
-join_names a b c d xs ys within left right = append_names a c d xs ys (widen_names a a b c xs (omega arith) within
-    left) right
 
 module _ (place function_place : Pos) (context : Context) (before : Work) (function : Typed) (number : ℕ) (each : List
     ℕ → Making Terms) (all : Making Given) (work : Work) (grown : Grown before work) (t : IsTyped work context

@@ -3,3 +3,4 @@ pub mod RunValues
 pub mod ValueSteps
 pub mod AnswerTypes
 pub mod Counting
+pub mod Prices

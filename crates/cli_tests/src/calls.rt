@@ -77,8 +77,8 @@ fn name_of(row: &'static Row) -> &'static str {
     }
 }
 
-// Each of these rows comes to what it tells. A table has some ten rows, since the check of a function that names one costs
-// the number of its texts times their length.
+// Each of these rows comes to what it tells. A table has some ten rows, since the check of a function that names one
+// costs the number of its texts times their length.
 pub(crate) fn all_right(rt: &impl Abort, alloc: Global, rows: &'static [Row]) {
     for row in rows {
         let file = bytes_of(rt, alloc, row.file);

@@ -7,7 +7,7 @@ use Rattle.std.proofs.Math.Nat.{pow-zero, pow-suc, mul-pos}
 use Rattle.grift_base.specs.Types.{TypeRows}
 use Rattle.grift_base.specs.declared.operators.PrimOp.{PrimOp}
 use Rattle.grift_base.specs.declared.operators.PrimOp.TheVariants.{MakeBox, MakeVector}
-use Rattle.core_calc.specs.Account.{Measures, Makes}
+use Rattle.core_calc.specs.Account.{StepKind, Measures, Makes}
 use Rattle.coercion_norm.specs.Coercions.{Coercion}
 use Rattle.cast_modes.specs.Modes.{Mode, Shape, Decision, Wrapping, Rewrapping, Injecting}
 use Rattle.cast_modes.specs.RunValues.{RunInt, shape_of}
@@ -19,17 +19,19 @@ use Rattle.flat_ir.specs.declared.code.Operation.TheVariants.{Prim, Cast, Tuple}
 use Rattle.flat_ir.specs.Bodies.{Body, Give, LetGroup, Proc}
 use Rattle.flat_ir.specs.Counts.{tuple_words, decision_at, operation_words, body_words, flat_turn_words}
 use Rattle.flat_ir.specs.Machine.{FlatValue, FlatFrame, FlatFocus, Inside, Locals, Group, value, values, flat_arity}
-use Rattle.flat_ir.specs.FlatTally.{Prices, piled_prices, merged_prices, operator_kind, cast_cost}
-use Rattle.flat_ir.specs.FlatTally.{operation_cost, body_cost, flat_cost}
+use Rattle.flat_ir.specs.FlatTally.{operator_kind, cast_cost, operation_cost, body_cost, flat_cost}
+use Rattle.coer_core.specs.TurnPrices.{piled_prices, merged_prices}
+use Rattle.cast_modes.specs.Prices.{Prices}
 
 -- prices in a mode that are enough for what is made
-pub record AreEnough {C : Type 0} (mode : Mode C) (prices : Prices C) : Type 0 where
+pub record AreEnough {C : Type 0} (mode : Mode C) (prices : Prices StepKind C) : Type 0 where
   pub cast : (cast : C) (shape : Shape C) → decision_words (mode.cast cast shape) ≤ (prices.cast cast shape).asks
   pub operator : (operator : PrimOp) (vs : List (FlatValue C))
       → operator_words operator vs ≤ (prices.other (Some (operator_kind operator vs)) 0 0).asks
   pub makes : (words functions : ℕ) → words ≤ (prices.other (Some Makes) words functions).asks
 
-module _ {C : Type 0} (procs : List Proc) (mode : Mode C) (prices : Prices C) (enough : AreEnough mode prices) where
+module _ {C : Type 0} (procs : List Proc) (mode : Mode C) (prices : Prices StepKind C)
+    (enough : AreEnough mode prices) where
   cast_asked : (cast : Option C) (v : FlatValue C)
       → decision_words (decision_at procs mode cast v) ≤ (cast_cost procs mode prices cast v).asks
   cast_asked (Some cast) v = enough.cast cast (shape_of (flat_arity procs) v)

@@ -28,7 +28,8 @@ use Rattle.flat_ir.specs.Closed.{is_closed}
 use Rattle.flat_ir.specs.Counts.{flat_run_in}
 use Rattle.coer_core.specs.Terms.{RowVar, RowCall, RowPrim, NoRowTerms, RowTermThen, NoRowMembers, RowMemberThen}
 use Rattle.closure_convert.specs.Conversion.{captures, converted, made}
-use Rattle.flat_ir.specs.FlatTally.{FlatTally, flat_tally_in, piled_prices, merged_prices}
+use Rattle.flat_ir.specs.FlatTally.{FlatTally, flat_tally_in}
+use Rattle.coer_core.specs.TurnPrices.{piled_prices, merged_prices}
 
 abbrev types : TypeRows
 types =

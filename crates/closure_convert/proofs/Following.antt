@@ -39,7 +39,7 @@ use Rattle.closure_convert.proofs.Relation.{FocusOn}
 use Rattle.closure_convert.proofs.Agreeing.{same_shown, same_fits}
 use Rattle.core_calc.specs.Account.{StepKind}
 use Rattle.coer_core.specs.Tally.{kind_acts}
-use Rattle.flat_ir.specs.FlatTally.{no_cost, Prices}
+use Rattle.cast_modes.specs.Prices.{no_cost, Prices}
 use Rattle.closure_convert.proofs.Moves.{measure, no_more_frames, Over, Pair, left_on, Moves, each_turn}
 
 abbrev pub size : {C : Type 0} → Counted (RunState C) → ℕ
@@ -54,7 +54,7 @@ unless Exhausted p = p
 unless Wrong p = tt
 
 -- what turns cost doesn't matter here
-plain_prices : (C : Type 0) → Prices C
+plain_prices : (C : Type 0) → Prices StepKind C
 plain_prices C = record {
   cast = λ cast shape. no_cost;
   part = no_cost;

@@ -59,7 +59,8 @@ use Rattle.closure_convert.specs.Conversion.{meanings_of}
 use Rattle.closure_convert.specs.Conversion.{made, made_in, made_by, atom, placed, call_of, label_id, code}
 use Rattle.closure_convert.specs.Conversion.{gather}
 use Rattle.closure_convert.specs.Conversion.{gather_let, sequence}
-use Rattle.flat_ir.specs.FlatTally.{Cost, no_cost, Prices, made_vector as flat_vector, operator_kind, cast_cost}
+use Rattle.flat_ir.specs.FlatTally.{made_vector as flat_vector, operator_kind, cast_cost}
+use Rattle.cast_modes.specs.Prices.{Cost, no_cost, Prices}
 use Rattle.flat_ir.specs.FlatTally.{plain_cost, enter_cost, flat_cost, flat_atoms}
 use Rattle.closure_convert.proofs.Carrying.{none_some, same_some, firsts, seconds, means}
 use Rattle.closure_convert.proofs.Carrying.{group_of, fun_of, Stands, StandsFor}
@@ -419,7 +420,7 @@ module _ {C : Type 0} (procs : List Proc) (mode : Mode C) where
 
 -- ---- what a turn of the term costs, in the words of the procedures' costs
 
-abbrev pub coer_cost : {C : Type 0} → Mode C → Prices C → CoerFocus C → List (CoerFrame C) → Cost
+abbrev pub coer_cost : {C : Type 0} → Mode C → Prices StepKind C → CoerFocus C → List (CoerFrame C) → Cost
 coer_cost mode prices (Return v) (CastFrame cast ∷ k) = prices.cast cast (shape_of code_arity v)
 coer_cost mode prices (Return v) (OwnFrame (ProjDynFrame i label) ∷ k) = prices.part
 coer_cost mode prices focus k =
@@ -471,7 +472,7 @@ no_atom term scope e c = refl
 
 -- ---- what the last turn of several terms costs
 
-abbrev job_cost : {C : Type 0} → Prices C → Job C → List (CoerValue C) → Cost
+abbrev job_cost : {C : Type 0} → Prices StepKind C → Job C → List (CoerValue C) → Cost
 job_cost prices (Calling f) done = prices.other (Some Acts) 0 0
 job_cost prices Tupling done = prices.other (Some Makes) (job_words Tupling done) 0
 job_cost prices (Operating op) done = prices.other (Some (operating_kind op (onto done []))) 0 0
@@ -486,7 +487,7 @@ abbrev ActsAtEnd : RowBindings → Cost → Type 0
 ActsAtEnd NoRowBindings c = 1 ≤ c.acts
 ActsAtEnd (RowBindingThen name term rest) c = Unit {0}
 
-module _ {C : Type 0} (mode : Mode C) (prices : Prices C) where
+module _ {C : Type 0} (mode : Mode C) (prices : Prices StepKind C) where
   fun_pays : (arguments : RowTerms) (env : Env C) (v : CoerValue C) (k : List (CoerFrame C))
       → PaysAtEnd arguments (job_cost prices (Calling v) [])
       (coer_cost mode prices (Return v) (OwnFrame (FunFrame arguments env) ∷ k))
@@ -572,7 +573,8 @@ module _ {C : Type 0} (mode : Mode C) (store : CoerStore C) (world : WorldState)
   argument_begins f done v [] todo k = refl
   argument_begins f done v (cast ∷ casts) todo k = refl
 
-  module _ (prices : Prices C) (act : (kind : StepKind) (a b : ℕ) → (prices.other (Some kind) a b).acts ≡ 1) where
+  module _ (prices : Prices StepKind C)
+      (act : (kind : StepKind) (a b : ℕ) → (prices.other (Some kind) a b).acts ≡ 1) where
     plain_begins : (f : CoerValue C) (done : List (CoerValue C)) (todo : List (CoerPending C)) (k : List (CoerFrame C))
         → begins (enter_plain mode code_arity entered store world f done todo k)
         ≤ (prices.other (plain_kind todo) 0 0).acts
@@ -591,7 +593,7 @@ module _ {C : Type 0} (mode : Mode C) (store : CoerStore C) (world : WorldState)
     enter_begins (RunInt n) done todo k = plain_begins (RunInt n) done todo k
     enter_begins f done todo k = plain_begins f done todo k
 
-module _ {C : Type 0} (procs : List Proc) (mode : Mode C) (prices : Prices C) where
+module _ {C : Type 0} (procs : List Proc) (mode : Mode C) (prices : Prices StepKind C) where
   plain_pays : (todo : List (CoerPending C)) (after : List (Pending C FlatCode)) → Pends procs mode todo after
       → Pays (plain_cost procs mode prices after) (prices.other (plain_kind todo) 0 0)
   plain_pays [] [] p = pays_same _ _ refl
@@ -656,7 +658,7 @@ module _ {C : Type 0} (procs : List Proc) (mode : Mode C) (told : Told) where
 
 -- ---- what both do from such states
 
-module _ {C : Type 0} (procs : List Proc) (mode : Mode C) (told : Told) (prices : Prices C)
+module _ {C : Type 0} (procs : List Proc) (mode : Mode C) (told : Told) (prices : Prices StepKind C)
     (act : (kind : StepKind) (a b : ℕ) → (prices.other (Some kind) a b).acts ≡ 1) where
   module _ (store : CoerStore C) (world : WorldState) (cells : FlatStore C) (held : Cells procs mode store cells) where
     abbrev pub S : CoerFocus C → List (CoerFrame C) → RunState C

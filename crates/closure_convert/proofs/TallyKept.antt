@@ -33,8 +33,11 @@ use Rattle.coer_core.proofs.Public.{merged_runs_follow_the_calculus-never_wrong,
 use Rattle.flat_ir.specs.Bodies.{Body}
 use Rattle.flat_ir.specs.Machine.{FlatState, Inside, new_group, first_world, flat_state_at, flat_start, entry_body}
 use Rattle.closure_convert.specs.Conversion.{nothing_known, made, converted, code}
-use Rattle.flat_ir.specs.FlatTally.{Cost, Prices, kind_cost, piled_prices, merged_prices, FlatTally, KeepsTally}
-use Rattle.flat_ir.specs.FlatTally.{PaysTally, FlatBelow, FlatPaidBelow, flat_tally_in, flat_untallied}
+use Rattle.flat_ir.specs.FlatTally.{FlatTally, FlatBelow, FlatPaidBelow, flat_tally_in, flat_untallied}
+use Rattle.closure_convert.specs.KeptTallies.{KeepsTally}
+use Rattle.coer_core.specs.TurnPrices.{kind_cost, piled_prices, merged_prices}
+use Rattle.cast_modes.specs.Prices.{Cost, Prices}
+use Rattle.closure_convert.specs.KeptTallies.{PaysTally}
 use Rattle.closure_convert.proofs.Standing.{IsClosedTerm, entry_stands, start_on}
 use Rattle.closure_convert.proofs.Moves.{coer_cost, atom_few, size_of}
 use Rattle.closure_convert.proofs.Tallying.{Tallies, Related, keeps_tally}
@@ -127,7 +130,7 @@ module _ (types : TypeRows) (mode : Mode Coercion) (m : Measures) where
 
 -- ---- from the start
 
-module _ {C : Type 0} (mode : Mode C) (told : Told) (term : RowTerm) (input : List ℕ) (prices : Prices C)
+module _ {C : Type 0} (mode : Mode C) (told : Told) (term : RowTerm) (input : List ℕ) (prices : Prices StepKind C)
     (act : (kind : StepKind) (a b : ℕ) → (prices.other (Some kind) a b).acts ≡ 1)
     (M : Reduction (Tallied C) Tally Verdict) (tallies : Tallies mode told prices M) where
   start_of : Body → FlatState C

@@ -22,8 +22,9 @@ use Rattle.coer_core.specs.Tally.{Tally, Tallied}
 use Rattle.flat_ir.specs.Bodies.{Proc}
 use Rattle.flat_ir.specs.Machine.{FlatStore, FlatFrame, FlatFocus, FlatAfter, FlatState, flat_turn, answer_at}
 use Rattle.flat_ir.specs.Machine.{flat_state_at, after_flat, flat_running}
-use Rattle.flat_ir.specs.FlatTally.{Cost, Prices, flat_cost, flat_atoms, FlatTally, FlatTallied, flat_tallying}
-use Rattle.flat_ir.specs.FlatTally.{KeepsTally, PaysTally}
+use Rattle.flat_ir.specs.FlatTally.{flat_cost, flat_atoms, FlatTally, FlatTallied, flat_tallying}
+use Rattle.cast_modes.specs.Prices.{Cost, Prices}
+use Rattle.closure_convert.specs.KeptTallies.{KeepsTally, PaysTally}
 use Rattle.closure_convert.proofs.Relation.{Cells, FocusOn}
 use Rattle.closure_convert.proofs.Agreeing.{same_shown, same_fits}
 use Rattle.closure_convert.proofs.Moves.{measure, coer_cost, no_more_frames, Live, Pair, left, left_on}
@@ -31,7 +32,7 @@ use Rattle.closure_convert.proofs.Moves.{size_of}
 use Rattle.closure_convert.proofs.Moves.{Stays, Steps, Moves, each_turn}
 
 -- a run of the term whose turns cost so much
-pub record Tallies {C : Type 0} (mode : Mode C) (told : Told) (prices : Prices C)
+pub record Tallies {C : Type 0} (mode : Mode C) (told : Told) (prices : Prices StepKind C)
     (M : Reduction (Tallied C) Tally Verdict) : Type 0 where
   pub ending : (s : Tallied C) → M.ending s ≡ (running mode told).ending s.state
   pub output : (s : Tallied C) → M.output s ≡ s.state.world.output
@@ -62,7 +63,7 @@ result_of {B = B} f = B
 abbrev middle_of : {A B D E : Type 0} → (A × B × D → E) → Type 0
 middle_of {B = B} f = B
 
-module _ {C : Type 0} (procs : List Proc) (mode : Mode C) (told : Told) (prices : Prices C)
+module _ {C : Type 0} (procs : List Proc) (mode : Mode C) (told : Told) (prices : Prices StepKind C)
     (act : (kind : StepKind) (a b : ℕ) → (prices.other (Some kind) a b).acts ≡ 1)
     (M : Reduction (Tallied C) Tally Verdict) (tallies : Tallies mode told prices M) where
   abbrev pub N : Reduction (FlatTallied C) FlatTally Verdict

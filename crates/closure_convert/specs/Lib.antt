@@ -4,6 +4,7 @@ pub mod Numbers
 pub mod Waits
 pub mod Scopes
 pub mod Keeping
+pub mod KeptTallies
 pub mod Converting
 pub mod Programs
 pub mod Uses

@@ -27,8 +27,9 @@ ghost use Rattle.flat_ir.specs.Levels.{HaveLevels};
 ghost use Rattle.flat_ir.specs.Machine.{FlatState};
 ghost use Rattle.closure_convert.specs.Bounds.{CountsKept};
 ghost use Rattle.closure_convert.specs.Conversion.{captures, converted, made};
-ghost use Rattle.flat_ir.specs.FlatTally.{FlatBelow, FlatPaidBelow, KeepsTally, PaysTally};
-ghost use Rattle.flat_ir.specs.FlatTally.{cost_of_turn, flat_tally_in, merged_prices, piled_prices};
+ghost use Rattle.flat_ir.specs.FlatTally.{FlatBelow, FlatPaidBelow, cost_of_turn, flat_tally_in};
+ghost use Rattle.closure_convert.specs.KeptTallies.{KeepsTally, PaysTally};
+ghost use Rattle.coer_core.specs.TurnPrices.{merged_prices, piled_prices};
 ghost use Rattle.closure_convert.specs.Free.{is_free, is_free_in_a_member};
 ghost use Rattle.closure_convert.specs.Uses.{has_words, term_uses};
 

@@ -21,7 +21,7 @@ ghost use Rattle.flat_ir.specs.Views.{procs_of};
 ghost use Rattle.closure_convert.specs.Bounds.{CountsKept};
 ghost use Rattle.closure_convert.specs.Conversion.{converted, made};
 ghost use Rattle.flat_ir.specs.FlatTally.{FlatBelow, FlatPaidBelow, flat_tally_in};
-ghost use Rattle.flat_ir.specs.FlatTally.{merged_prices, piled_prices};
+ghost use Rattle.coer_core.specs.TurnPrices.{merged_prices, piled_prices};
 ghost use Rattle.closure_convert.specs.Programs.{HasNoFreeNames};
 
 use crate::conversion::Converter;

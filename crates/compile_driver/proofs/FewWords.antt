@@ -7,7 +7,7 @@ use Rattle.grift_base.specs.Types.{TypeRow}
 use Rattle.flat_ir.specs.Bodies.{Proc as FlatProc}
 use Rattle.flat_ir.specs.Levels.{HaveLevels}
 use Rattle.low_ir.specs.Procedures.{Proc}
-use Rattle.rt_cast.specs.Frames.{frame_bytes, frame_room, largest_frame}
+use Rattle.low_ir.specs.Frames.{frame_bytes, frame_room, largest_frame}
 use Rattle.rt_cast.specs.Procs.{cast_procs}
 use Rattle.rt_refs.specs.RefProcs.{ref_procs}
 use Rattle.lower.specs.declared.served.Served.{Served}

@@ -12,6 +12,7 @@ use Rattle.grift_base.specs.declared.operators.PrimOp.{PrimOp}
 use Rattle.grift_base.specs.declared.operators.PrimOp.TheVariants.{Add, Sub, Mul, Quot, Rem, Lt, Le, Eq, Ge, Gt, Not}
 use Rattle.grift_base.specs.declared.operators.PrimOp.TheVariants.{PrintInt, Newline, ReadInt, MakeBox, Unbox, BoxSet}
 use Rattle.grift_base.specs.declared.operators.PrimOp.TheVariants.{MakeVector, VectorRef, VectorSet, VectorLength}
+use Rattle.core_calc.specs.Account.{StepKind}
 use Rattle.cast_modes.specs.AnswerTypes.{Told}
 use Rattle.cast_modes.specs.Modes.{Decision, Keeping, Wrapping, Rewrapping, Unwrapping, Injecting, Opening, Making}
 use Rattle.cast_modes.specs.Modes.{Blaming, DynPart, PartCast, NoPart, NoType, Mode}
@@ -29,7 +30,8 @@ use Rattle.cast_modes.specs.ValueSteps.{run_vector_ref, run_vector_set, run_vect
 use Rattle.flat_ir.specs.declared.code.Operation.{Operation}
 use Rattle.flat_ir.specs.declared.code.Operation.TheVariants.{Move, Prim, Cast, Tuple, Proj, ProjDyn}
 use Rattle.flat_ir.specs.Bodies.{Body, Give, Call, Choose, LetBody, LetGroup, Proc}
-use Rattle.flat_ir.specs.FlatTally.{Prices, flat_tally_in, flat_tallying, flat_untallied}
+use Rattle.flat_ir.specs.FlatTally.{flat_tally_in, flat_tallying, flat_untallied}
+use Rattle.cast_modes.specs.Prices.{Prices}
 use Rattle.flat_ir.specs.Machine.{FlatValue, FlatFrame, FlatFocus, FlatAfter, FlatStore, FlatState, Inside, Waiting}
 use Rattle.flat_ir.specs.Machine.{Locals, Group, value, values, flat_arity, flat_entered, perform, flat_choose}
 use Rattle.flat_ir.specs.Machine.{flat_body, flat_back, flat_turn, after_flat, flat_start}
@@ -297,7 +299,7 @@ module _ {C : Type 0} (procs : List Proc) (mode : Mode C) (told : Told) where
   after_adds s NoNext h = same s.world
 
   -- so along a run with its account the output only grows
-  pub flat_output_grows : (prices : Prices C) (entry : ℕ) (input : List ℕ)
+  pub flat_output_grows : (prices : Prices StepKind C) (entry : ℕ) (input : List ℕ)
       → OutputGrows (flat_tally_in procs entry mode prices told input)
   flat_output_grows prices entry input =
       output_only_grows-reductions (flat_tallying procs mode prices told)

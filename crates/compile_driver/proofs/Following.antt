@@ -66,7 +66,8 @@ use Rattle.closure_convert.specs.Conversion.{converted, made}
 use Rattle.closure_convert.specs.Programs.{HasNoFreeNames}
 use Rattle.closure_convert.proofs.Public.{procedures_follow_their_term-merged}
 use Rattle.closure_convert.proofs.Public.{procedures_of_program_terms_are_closed-names}
-use Rattle.flat_ir.specs.FlatTally.{flat_tally_in, merged_prices}
+use Rattle.flat_ir.specs.FlatTally.{flat_tally_in}
+use Rattle.coer_core.specs.TurnPrices.{merged_prices}
 use Rattle.flat_ir.specs.Levels.{HaveLevels}
 use Rattle.low_ir.specs.Counting.{any_calls}
 use Rattle.low_ir.specs.Prices.{low_price}
@@ -83,7 +84,7 @@ use Rattle.lower.specs.Serving.{all_narrow}
 use Rattle.lower.specs.Sets.{merged_numbers, merged_procs, with_casts}
 use Rattle.lower.proofs.Public.{words_follow_procedures-storage, words_keep_the_account, procedures_are_narrow}
 use Rattle.lower.proofs.Public.{AreSized}
-use Rattle.rv_slots.specs.Slotted.{room_in}
+use Rattle.reg_assign.specs.Slotted.{room_in}
 use Rattle.reg_assign.specs.Images.{ExceedsStack, FollowsWords, HasRegionOf, IsImageOfWords}
 use Rattle.compile_driver.specs.Compiling.{FollowsProgram}
 use Rattle.compile_driver.specs.Space.{KeepsSpace, KeepsStorage}

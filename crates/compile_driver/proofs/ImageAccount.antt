@@ -38,7 +38,8 @@ use Rattle.coercion_norm.specs.declared.cast_rows.CastRow.{CastRow}
 use Rattle.coer_core.specs.Counts.{told_of}
 use Rattle.coer_core.specs.Programs.{tallest_of}
 use Rattle.coer_core.specs.Terms.{RowTerm}
-use Rattle.flat_ir.specs.FlatTally.{FlatTally, FlatBelow, FlatPaidBelow, flat_tally_in, merged_prices}
+use Rattle.flat_ir.specs.FlatTally.{FlatTally, FlatBelow, FlatPaidBelow, flat_tally_in}
+use Rattle.coer_core.specs.TurnPrices.{merged_prices}
 use Rattle.closure_convert.specs.Conversion.{converted, made}
 use Rattle.low_ir.specs.Counting.{Exceeds, IsWantOfRegion, any_calls}
 use Rattle.low_ir.specs.Prices.{low_price}
@@ -50,7 +51,7 @@ use Rattle.lower.specs.Lowered.{entry_proc}
 use Rattle.lower.proofs.Public.{programs_want_no_room, numbered_words}
 use Rattle.rv_select.specs.Prices.{start_price}
 use Rattle.rv_select.specs.Stacks.{frames_size}
-use Rattle.rv_slots.specs.Slotted.{room_in}
+use Rattle.reg_assign.specs.Slotted.{room_in}
 use Rattle.reg_assign.specs.Images.{HasRegionOf}
 use Rattle.compile_driver.specs.Bounds.{KeepsAccount, RegionLacks, StackLacks, stop_after}
 use Rattle.compile_driver.proofs.CalculusAccount.{live, one_step}

@@ -10,15 +10,16 @@ use Rattle.run_laws.specs.Accounts.{FollowsWithin}
 use Rattle.run_laws.specs.Reductions.{Reduction, state_after, unless_ended}
 use Rattle.run_laws.specs.Runs.{Ending, IsPrefix, OutputGrows, Run}
 use Rattle.rv_machine.specs.State.{State}
-use Rattle.core_calc.specs.Account.{Account, account, measures_of}
+use Rattle.core_calc.specs.Account.{StepKind, Account, account, measures_of}
 use Rattle.core_calc.specs.Calculus.{Program, calc}
 use Rattle.cast_modes.specs.AnswerTypes.{Told}
 use Rattle.cast_modes.specs.Modes.{Mode}
 use Rattle.flat_ir.specs.Bodies.{Proc as FlatProc}
-use Rattle.flat_ir.specs.FlatTally.{FlatBelow, FlatTallied, FlatTally, Prices, flat_tally_in, flat_tally_of}
+use Rattle.flat_ir.specs.FlatTally.{FlatBelow, FlatTallied, FlatTally, flat_tally_in, flat_tally_of}
+use Rattle.cast_modes.specs.Prices.{Prices}
 use Rattle.flat_ir.specs.FlatTally.{flat_tallying, flat_untallied}
 use Rattle.flat_ir.specs.Machine.{flat_start}
-use Rattle.rt_cast.specs.Frames.{frame_room}
+use Rattle.low_ir.specs.Frames.{frame_room}
 use Rattle.compile_driver.specs.Bounds.{StackLacks, account_at}
 use Rattle.compile_driver.proofs.CalculusAccount.{last_step, one_step}
 use Rattle.compile_driver.proofs.FewWords.{room_of_frame}
@@ -48,7 +49,7 @@ max_either a b = by (cases_lt a b)
     by (inl less) = inr (max-le (omega (arith, less)) (le_refl b))
     by (inr le) = inl (max-le (le_refl a) le)
 
-module _ {C : Type 0} (procs : List FlatProc) (mode : Mode C) (prices : Prices C) (told : Told) (entry : ℕ)
+module _ {C : Type 0} (procs : List FlatProc) (mode : Mode C) (prices : Prices StepKind C) (told : Told) (entry : ℕ)
     (input : List ℕ) where
   abbrev M : Reduction (FlatTallied C) FlatTally Outcome
   M = flat_tallying procs mode prices told

@@ -1,76 +1,25 @@
--- The account of a run of numbered procedures, in the words of the account of the term's run: what each turn asks for,
--- and its budget in instructions. One definition serves both modes, over what casts cost there.
+-- The account of a run of numbered procedures: what each turn asks for, and its budget in instructions. One definition
+-- serves both modes, over what casts and other turns cost there.
 use Rattle.std.specs.Prelude.{ℕ, pos, ◌+◌, ◌*◌, ◌≤◌, max, List, [], ◌∷◌, length, Option, Some, None}
 use Rattle.run_laws.specs.Runs.{Run}
 use Rattle.run_laws.specs.Reductions.{Reduction, reduction_run}
-use Rattle.grift_base.specs.Types.{TypeRows}
 use Rattle.grift_base.specs.declared.operators.PrimOp.{PrimOp}
 use Rattle.grift_base.specs.declared.operators.PrimOp.TheVariants.{MakeVector}
 use Rattle.grift_base.specs.declared.verdicts.Verdict.{Verdict}
 use Rattle.core_calc.specs.Redex.{where_some}
-use Rattle.core_calc.specs.Account.{Measures, StepKind, Casts, Makes, MakesVector, Acts, Account}
-use Rattle.coercion_norm.specs.Coercions.{Coercion}
-use Rattle.cast_modes.specs.Modes.{Shape, Mode}
+use Rattle.core_calc.specs.Account.{StepKind, Makes, MakesVector, Acts, operator_kind as step_kind, Account}
+use Rattle.cast_modes.specs.Modes.{Mode}
 use Rattle.cast_modes.specs.RunValues.{Pending, RunInt, RunWrap, shape_of}
 use Rattle.cast_modes.specs.ValueSteps.{CastFrame, ProjFrame, PrimFrame, EnterFrame, OwnFrame, Own, Return, Entering}
 use Rattle.cast_modes.specs.ValueSteps.{onto}
 use Rattle.cast_modes.specs.AnswerTypes.{Told}
-use Rattle.coer_core.specs.Tally.{operating_kind, decision_kind, kind_asks, kind_budget, kind_acts, Tally, reach}
-use Rattle.coer_core.specs.MergedTally.{Effort, Opens, effort, effort_acts, effort_asks, effort_budget, other_asks}
+use Rattle.cast_modes.specs.Prices.{Cost, no_cost, Prices}
 use Rattle.flat_ir.specs.declared.code.Operation.{Operation}
 use Rattle.flat_ir.specs.declared.code.Operation.TheVariants.{Move, Prim, Cast, Tuple, Proj, ProjDyn}
 use Rattle.flat_ir.specs.Bodies.{Body, Give, Call, Choose, LetBody, LetGroup, Proc}
 use Rattle.flat_ir.specs.Counts.{tuple_words}
 use Rattle.flat_ir.specs.Machine.{FlatCode, FlatValue, FlatFrame, FlatFocus, FlatState, Inside, Waiting, Locals, Group}
 use Rattle.flat_ir.specs.Machine.{value, values, flat_arity, flat_running, flat_start}
-
--- ---- what casts cost in a mode
-
--- of a turn: 1 if it makes a step, the words that it asks for, and its budget in instructions
-pub record Cost : Type 0 where
-  pub acts : ℕ
-  pub asks : ℕ
-  pub budget : ℕ
-
-abbrev pub no_cost : Cost
-no_cost = record { acts = 0; asks = 0; budget = 0 }
-
--- what a cast costs at a value of a shape, what a part of a value in Dyn costs, and what other turns cost by their
--- kinds, with the words that they make and those of functions among them
-pub record Prices (C : Type 0) : Type 0 where
-  pub cast : C → Shape C → Cost
-  pub part : Cost
-  pub other : Option StepKind → ℕ → ℕ → Cost
-
-abbrev pub kind_cost : Measures → Option StepKind → ℕ → ℕ → Cost
-kind_cost m kind made functions = record {
-  acts = kind_acts kind;
-  asks = kind_asks m kind made;
-  budget = kind_budget m kind functions;
-}
-
--- casts piled up
-abbrev pub piled_prices : {C : Type 0} → Mode C → Measures → Prices C
-piled_prices mode m = record {
-  cast = λ cast shape. kind_cost m (Some (decision_kind (mode.cast cast shape))) 0 0;
-  part = kind_cost m (Some Casts) 0 0;
-  other = λ kind made functions. kind_cost m kind made functions;
-}
-
-abbrev pub effort_cost : Measures → Effort → Cost
-effort_cost m e = record { acts = effort_acts e; asks = effort_asks m e; budget = effort_budget m e }
-
--- casts merged
-abbrev pub merged_prices : TypeRows → Mode Coercion → Measures → Prices Coercion
-merged_prices types mode m = record {
-  cast = λ cast shape. effort_cost m (effort types cast shape (mode.cast cast shape));
-  part = effort_cost m Opens;
-  other = λ kind made functions. record {
-    acts = kind_acts kind;
-    asks = other_asks m kind made;
-    budget = kind_budget m kind functions;
-  };
-}
 
 -- ---- what a turn of the procedures costs
 
@@ -80,9 +29,9 @@ made_vector _ = Acts
 
 abbrev pub operator_kind : {C : Type 0} → PrimOp → List (FlatValue C) → StepKind
 operator_kind MakeVector vs = made_vector vs
-operator_kind {C = C} operator vs = operating_kind {C = C} operator []
+operator_kind operator vs = step_kind operator []
 
-module _ {C : Type 0} (procs : List Proc) (mode : Mode C) (prices : Prices C) where
+module _ {C : Type 0} (procs : List Proc) (mode : Mode C) (prices : Prices StepKind C) where
   abbrev pub act_cost : Cost
   act_cost = prices.other (Some Acts) 0 0
 
@@ -163,7 +112,7 @@ pub record FlatTallied (C : Type 0) : Type 0 where
 abbrev pub flat_untallied : {C : Type 0} → FlatState C → FlatTallied C
 flat_untallied state = record { acts = 0; atoms = 0; words = 0; deepest = 0; paid = 0; state = state }
 
-module _ {C : Type 0} (procs : List Proc) (mode : Mode C) (prices : Prices C) where
+module _ {C : Type 0} (procs : List Proc) (mode : Mode C) (prices : Prices StepKind C) where
   abbrev pub cost_of_turn : FlatState C → Cost
   cost_of_turn state = flat_cost procs mode prices state.focus state.frames
 
@@ -199,26 +148,13 @@ module _ {C : Type 0} (procs : List Proc) (mode : Mode C) (prices : Prices C) wh
   }
 
 -- the account of procedures, of which the one with this number begins
-abbrev pub flat_tally_in : {C : Type 0} → List Proc → ℕ → Mode C → Prices C → Told → List ℕ → Run FlatTally Verdict
+abbrev pub flat_tally_in : {C : Type 0} → List Proc → ℕ → Mode C → Prices StepKind C → Told → List ℕ
+    → Run FlatTally Verdict
 flat_tally_in procs entry mode prices told input =
     reduction_run (flat_tallying procs mode prices told) (flat_untallied (flat_start procs told entry input))
 
--- ---- against the account of the term's run
-
 abbrev pub flat_reach : FlatTally → ℕ
 flat_reach flat = flat.words + flat.asks
-
--- no more acts, words and frames, and at most one name or constant for each act, and one
-pub record KeepsTally (flat : FlatTally) (tally : Tally) : Type 0 where
-  pub acts : flat.acts ≤ tally.acts
-  pub atoms : flat.atoms ≤ tally.acts + 1
-  pub reach : flat_reach flat ≤ reach tally
-  pub asks : flat.asks ≤ tally.asks
-  pub frames : flat.frames ≤ tally.frames
-
--- the budgets are no more, with 64 instructions for each act, and for one
-abbrev pub PaysTally : FlatTally → Tally → Type 0
-PaysTally flat tally = flat.paid ≤ tally.paid + 64 * (tally.acts + 1)
 
 -- ---- against the account of the calculus
 

@@ -5,3 +5,4 @@ mod Utf8Texts
 mod Numerals
 mod ReadingExamples
 mod ReadNumbers
+mod CallNumbers

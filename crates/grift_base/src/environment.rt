@@ -21,6 +21,6 @@ pub const REGION_OUT_CALL: u64 = 5;
 /// Code gives up for want of stack.
 pub const STACK_OUT_CALL: u64 = 6;
 
-/// The next number of the input is read. The first word is the number and the second 0, or the first is 0 and the second
-/// 1 where there is none.
+/// The next number of the input is read. The first word is the number and the second 0, or the first is 0 and the
+/// second 1 where there is none.
 pub const READ_INT_CALL: u64 = 7;

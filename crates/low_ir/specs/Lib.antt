@@ -1,8 +1,10 @@
 pub mod Operations
 pub mod Procedures
+pub mod Codes
 pub mod Views
 pub mod Steps
 pub mod Run
+pub mod Frames
 pub mod Counting
 pub mod Prices
 pub mod Closed

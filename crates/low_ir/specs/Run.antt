@@ -90,6 +90,11 @@ abbrev pub bind : ℕ → List ℕ → Locals → Locals
 bind from [] locals = locals
 bind from (w ∷ ws) locals = bind (suc from) ws (set_local from w locals)
 
+-- the state in which a procedure was entered with these words
+abbrev pub entered : LowState → Proc → List ℕ → LowState
+entered s p words =
+    record s { active = record { count = p.words; locals = bind 0 words no_locals; code = p.code; rests = [] } }
+
 -- the first procedure from a number on with a code address
 abbrev pub proc_from : (ℕ → ℕ) → ℕ → ℕ → List Proc → Option Proc
 proc_from address at k [] = None

@@ -8,5 +8,6 @@
 
 mod closing;
 pub mod code;
+pub mod codes;
 pub mod laws;
 pub mod programs;

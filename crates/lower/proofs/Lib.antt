@@ -6,4 +6,5 @@ mod closing
 mod heap
 mod simulation
 mod words
+mod references
 mod merging

@@ -26,7 +26,7 @@ use Rattle.flat_ir.specs.declared.code.Operand.TheVariants.{Unit as UnitCase}
 use Rattle.flat_ir.specs.declared.code.Operation.{Operation}
 use Rattle.flat_ir.specs.declared.code.Operation.TheVariants.{Move, Prim, Cast, Tuple, Proj, ProjDyn}
 use Rattle.flat_ir.specs.Bodies.{Body, Give, Call, Choose, LetBody, LetGroup}
-use Rattle.rt_cast.specs.Words.{count_unit, kind_mask, tag_bits, tag_mask}
+use Rattle.object_layout.specs.Words.{count_unit, kind_mask, tag_bits, tag_mask}
 use Rattle.rt_refs.specs.CellCodes.{asks_box, asks_element, asks_length}
 use Rattle.rt_refs.specs.Quotients.{asks_quotient, asks_remainder}
 use Rattle.lower.specs.declared.numbering.Shape.{Shape}

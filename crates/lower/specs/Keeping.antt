@@ -5,7 +5,7 @@ use Rattle.core_calc.specs.Account.{Measures}
 use Rattle.low_ir.specs.Run.{Setting, LowShown}
 use Rattle.coercion_norm.specs.Held.{Layout}
 use Rattle.flat_ir.specs.FlatTally.{FlatTally}
-use Rattle.rt_cast.specs.Frames.{frame_room}
+use Rattle.low_ir.specs.Frames.{frame_room}
 
 -- the types and coercions that stand among the static objects are no wider and no higher than the measures say, whose
 -- width is two at least

@@ -3,6 +3,9 @@ pub mod CastWays
 pub mod Emit
 pub mod Lowered
 pub mod Steps
+pub mod CallLaws
+pub mod CellLaws
+pub mod FillLaws
 pub mod Serving
 pub mod Sets
 pub mod Meanings

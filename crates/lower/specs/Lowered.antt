@@ -16,7 +16,7 @@ use Rattle.flat_ir.specs.Bodies.{Proc as FlatProc}
 use Rattle.flat_ir.specs.Levels.{levels}
 use Rattle.lower.specs.declared.numbering.Shape.{Shape}
 use Rattle.lower.specs.declared.served.Served.{Served}
-use Rattle.rt_cast.specs.Words.{kind_mask, tag_bits, tag_mask, type_over_tag}
+use Rattle.object_layout.specs.Words.{kind_mask, tag_bits, tag_mask, type_over_tag}
 use Rattle.lower.specs.Emit.{ToCaller, emit}
 
 abbrev pub shape_of : FlatProc → Shape

@@ -18,11 +18,11 @@ use Rattle.coercion_norm.specs.Nodes.{Node}
 use Rattle.coercion_norm.specs.ObjectsOfRows.{header}
 use Rattle.coercion_norm.specs.Statics.{layout_of}
 use Rattle.coer_core.specs.Programs.{tallest_of}
-use Rattle.flat_ir.specs.FlatTally.{merged_prices}
+use Rattle.coer_core.specs.TurnPrices.{merged_prices}
 use Rattle.rt_cast.specs.Carried.{IsLow}
 use Rattle.rt_cast.specs.Procs.{Stand}
 use Rattle.rt_cast.specs.WholeObjects.{Wholes}
-use Rattle.rt_refs.specs.CallLaws.{Resumes}
+use Rattle.lower.specs.CallLaws.{Resumes}
 use Rattle.lower.specs.Emit.{cast_word}
 use Rattle.lower.specs.Meanings.{Meaning}
 use Rattle.object_layout.specs.Kinds.{kind_number}

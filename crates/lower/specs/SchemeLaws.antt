@@ -17,10 +17,11 @@ use Rattle.run_laws.specs.Machines.{Stop, Reaches}
 use Rattle.machine_words.specs.Halts.{ending_of}
 use Rattle.low_ir.specs.declared.code.LowSource.{LowSource}
 use Rattle.low_ir.specs.Procedures.{Code, Proc as LowProc, Return as ReturnCode, CallAt}
-use Rattle.low_ir.specs.Run.{Setting, Waiting, LowState, low_machine, with_local, word_of, words_of}
+use Rattle.low_ir.specs.Run.{Setting, Waiting, LowState, low_machine, with_local, word_of, words_of, entered}
 use Rattle.low_ir.specs.Prices.{CostsAtMost}
-use Rattle.core_calc.specs.Account.{Measures}
-use Rattle.flat_ir.specs.FlatTally.{Cost, Prices, flat_cost, act_cost, cast_cost, operator_cost}
+use Rattle.core_calc.specs.Account.{Measures, StepKind}
+use Rattle.flat_ir.specs.FlatTally.{flat_cost, act_cost, cast_cost, operator_cost}
+use Rattle.cast_modes.specs.Prices.{Cost, Prices}
 use Rattle.cast_modes.specs.Modes.{Mode, TypeCast}
 use Rattle.cast_modes.specs.RunValues.{RunFun, RunWrap, in_row, all_plain}
 use Rattle.cast_modes.specs.ValueSteps.{CastFrame, Own, Return, Entering, On, BlameOf, TrapOf, NoNext, casts_onto}
@@ -33,12 +34,11 @@ use Rattle.cast_modes.specs.ValueSteps.{decision_wraps}
 use Rattle.flat_ir.specs.Machine.{FlatCode, FlatValue, FlatValues, FlatFocus, FlatFrame, FlatStore, FlatAfter, Inside}
 use Rattle.flat_ir.specs.Machine.{locals_of}
 use Rattle.flat_ir.specs.Machine.{flat_turn, flat_cast, flat_proj, flat_operate, flat_arity, flat_entered}
-use Rattle.rt_cast.specs.States.{entered}
 use Rattle.lower.specs.declared.served.Served.{Served}
 use Rattle.lower.specs.CastWays.{way_at, in_place}
 use Rattle.lower.specs.Emit.{cast_word}
 use Rattle.lower.specs.Meanings.{Meaning}
-use Rattle.rt_cast.specs.Frames.{stack_room}
+use Rattle.low_ir.specs.Frames.{stack_room}
 use Rattle.rt_cast.specs.States.{Heap, heap_of}
 use Rattle.lower.specs.Storage.{Filled}
 use Rattle.lower.specs.CarriedValues.{IsCarried, AreCarried, CellsHeld}
@@ -75,7 +75,7 @@ module _ (meaning : Meaning) (setting : Setting) (l : Layout) (procs : List Proc
   abbrev pub mode_here : Mode meaning.Cast
   mode_here = meaning.mode l.types casts
 
-  abbrev pub prices_here : Prices meaning.Cast
+  abbrev pub prices_here : Prices StepKind meaning.Cast
   prices_here = meaning.prices l.types casts m
 
   abbrev pub CarriedAt : List ℕ → List Object → FlatValue meaning.Cast → ℕ → Type 0

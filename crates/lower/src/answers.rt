@@ -21,7 +21,7 @@ use low_ir::code::{LowCode, LowSource, LowSources, WordOp};
 use low_ir::programs::LowProc;
 use machine_words::conditions::Cond;
 use object_layout::kinds::Kind;
-use rt_cast::words::{KIND_MASK, TAG_BITS, TAG_MASK, TYPE_OVER_TAG};
+use object_layout::words::{KIND_MASK, TAG_BITS, TAG_MASK, TYPE_OVER_TAG};
 use std::alloc::Global;
 use type_graph::rows::Row;
 

@@ -21,7 +21,7 @@ use grift_base::places::TypeId;
 use low_ir::code::LowSource::{Number, Word};
 use low_ir::code::{LowCode, LowSource, WordOp};
 use machine_words::conditions::Cond;
-use rt_cast::words::{TAG_BITS, TAG_MASK};
+use object_layout::words::{TAG_BITS, TAG_MASK};
 use std::alloc::Global;
 use type_graph::rows::Row;
 use type_graph::tables::TypeTable;

@@ -12,6 +12,7 @@ pub mod merged;
 pub mod numbering;
 mod operands;
 mod operations;
+pub mod reference_laws;
 pub mod schemes;
 pub mod served;
 pub mod simulation_laws;

@@ -28,7 +28,7 @@ use low_ir::code::LowSource::{Number, Word};
 use low_ir::code::{LowCode, LowSource, LowSources, WordOp};
 use machine_words::conditions::Cond;
 use object_layout::kinds::Kind;
-use rt_cast::words::{COUNT_UNIT, KIND_MASK};
+use object_layout::words::{COUNT_UNIT, KIND_MASK};
 use rt_refs::cells::{ASKS_BOX, ASKS_ELEMENT, ASKS_LENGTH};
 use rt_refs::procs::{ASKS_QUOTIENT, ASKS_REMAINDER};
 use std::alloc::Global;

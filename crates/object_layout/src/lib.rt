@@ -11,3 +11,4 @@ pub mod kinds;
 pub mod laws;
 pub mod walks;
 pub mod wholes;
+pub mod words;

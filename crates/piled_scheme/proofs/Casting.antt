@@ -16,7 +16,7 @@ use Rattle.low_ir.specs.declared.code.WordOp.TheVariants.{And, Srl}
 use Rattle.low_ir.specs.Operations.{compute}
 use Rattle.low_ir.specs.Procedures.{Code, Done, Build, Return as ReturnCode}
 use Rattle.low_ir.specs.Steps.{Locals, no_locals, set_local, store_words}
-use Rattle.low_ir.specs.Run.{Setting, LowState, bind}
+use Rattle.low_ir.specs.Run.{Setting, LowState, bind, entered}
 use Rattle.coercion_norm.specs.Coercions.{rows_of}
 use Rattle.cast_modes.specs.Modes.{TypeCast, Shape, Decision, Keeping, Wrapping, Blaming, NoCast, piling}
 use Rattle.cast_modes.specs.Modes.{fits}
@@ -28,10 +28,11 @@ use Rattle.coercion_norm.specs.Objects.{Object, object_at}
 use Rattle.coercion_norm.proofs.Public.{last_stands}
 use Rattle.flat_ir.specs.Bodies.{Proc}
 use Rattle.flat_ir.specs.Counts.{decision_at}
-use Rattle.flat_ir.specs.FlatTally.{cast_cost, piled_prices}
+use Rattle.flat_ir.specs.FlatTally.{cast_cost}
+use Rattle.coer_core.specs.TurnPrices.{piled_prices}
 use Rattle.flat_ir.specs.Machine.{FlatValue, FlatFrame, FlatStore, flat_arity, flat_cast}
-use Rattle.rt_cast.specs.PartCodes.{either}
-use Rattle.rt_cast.specs.States.{Heap, Placed, entered, heap_of}
+use Rattle.low_ir.specs.Codes.{either}
+use Rattle.rt_cast.specs.States.{Heap, Placed, heap_of}
 use Rattle.lower.specs.declared.served.CastWay.TheVariants.{Called}
 use Rattle.lower.specs.CastWays.{way_between, cast_way, cast_ways, way_at, in_place}
 use Rattle.lower.specs.Emit.{cast_word}

@@ -14,8 +14,8 @@ use Rattle.cast_modes.specs.Modes.{TypeCast}
 use Rattle.coercion_norm.specs.Held.{Layout, There}
 use Rattle.coercion_norm.specs.Objects.{Object, Fixed, header_of}
 use Rattle.flat_ir.specs.Bodies.{Proc}
-use Rattle.rt_cast.specs.Words.{kind_mask}
-use Rattle.rt_cast.specs.PartCodes.{blame_code}
+use Rattle.object_layout.specs.Words.{kind_mask}
+use Rattle.low_ir.specs.Codes.{blame_code}
 use Rattle.rt_cast.specs.States.{Placed, heap_of}
 use Rattle.lower.specs.Storage.{Filled}
 use Rattle.lower.proofs.Public.{word_there, header_there}

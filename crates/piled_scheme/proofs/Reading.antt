@@ -14,7 +14,7 @@ use Rattle.low_ir.specs.declared.code.LowSource.TheVariants.{Word, Number}
 use Rattle.low_ir.specs.Prices.{entering_some}
 use Rattle.low_ir.specs.Procedures.{Code, Done, Return as ReturnCode, TailCall}
 use Rattle.low_ir.specs.Steps.{Locals, no_locals, set_local, may_load}
-use Rattle.low_ir.specs.Run.{Setting, LowState, bind}
+use Rattle.low_ir.specs.Run.{Setting, LowState, bind, entered}
 use Rattle.cast_modes.specs.Modes.{TypeCast, piling}
 use Rattle.cast_modes.specs.RunValues.{RunInt, RunBool, RunUnit, RunFun, RunTuple, RunLoc, RunWrap, RunInject}
 use Rattle.cast_modes.specs.RunValues.{in_row}
@@ -23,10 +23,11 @@ use Rattle.coercion_norm.specs.Held.{Layout, There}
 use Rattle.coercion_norm.specs.Objects.{Object, Cell, object_at}
 use Rattle.coercion_norm.specs.ObjectsOfRows.{header}
 use Rattle.flat_ir.specs.Bodies.{Proc}
-use Rattle.flat_ir.specs.FlatTally.{act_cost, piled_prices}
+use Rattle.flat_ir.specs.FlatTally.{act_cost}
+use Rattle.coer_core.specs.TurnPrices.{piled_prices}
 use Rattle.flat_ir.specs.Machine.{FlatValue, FlatFrame, FlatStore, FlatAfter, flat_arity, flat_entered, flat_operate}
-use Rattle.rt_cast.specs.PartCodes.{either, blame_code}
-use Rattle.rt_cast.specs.States.{Placed, entered, heap_of}
+use Rattle.low_ir.specs.Codes.{either, blame_code}
+use Rattle.rt_cast.specs.States.{Placed, heap_of}
 use Rattle.rt_cast.specs.Objects.{HoldsWords}
 use Rattle.lower.specs.CarriedValues.{AreCarried, CellHeld}
 use Rattle.lower.specs.Storage.{Filled}

@@ -7,7 +7,7 @@ use Rattle.grift_base.specs.declared.operators.PrimOp.TheVariants.{Unbox, BoxSet
 use Rattle.grift_base.specs.Types.{TypeRows}
 use Rattle.core_calc.specs.Account.{Measures}
 use Rattle.low_ir.specs.Procedures.{Proc as LowProc}
-use Rattle.low_ir.specs.Run.{Setting, LowState}
+use Rattle.low_ir.specs.Run.{Setting, LowState, entered}
 use Rattle.cast_modes.specs.Modes.{TypeCast, piling}
 use Rattle.cast_modes.specs.RunValues.{RunInt, RunBool, RunUnit, RunFun, RunTuple, RunLoc, RunWrap, RunInject}
 use Rattle.cast_modes.specs.RunValues.{in_row, all_plain}
@@ -16,10 +16,12 @@ use Rattle.cast_modes.specs.ValueSteps.{run_enter_wrapped, run_proj_dyn}
 use Rattle.coercion_norm.specs.Held.{Layout}
 use Rattle.coercion_norm.specs.Objects.{Object}
 use Rattle.flat_ir.specs.Bodies.{Proc}
-use Rattle.flat_ir.specs.FlatTally.{Cost, act_cost, operator_cost, piled_prices}
+use Rattle.flat_ir.specs.FlatTally.{act_cost, operator_cost}
+use Rattle.coer_core.specs.TurnPrices.{piled_prices}
+use Rattle.cast_modes.specs.Prices.{Cost}
 use Rattle.flat_ir.specs.Machine.{FlatValue, FlatFrame, FlatStore, FlatAfter, flat_arity, flat_entered}
 use Rattle.flat_ir.specs.Machine.{flat_operate}
-use Rattle.rt_cast.specs.States.{Placed, entered, heap_of}
+use Rattle.rt_cast.specs.States.{Placed, heap_of}
 use Rattle.rt_refs.specs.FillCodes.{fill_proc}
 use Rattle.rt_refs.specs.Products.{product_loop, multiply}
 use Rattle.rt_refs.specs.Quotients.{quotient_loop, divide}

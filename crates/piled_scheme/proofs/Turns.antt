@@ -15,7 +15,8 @@ use Rattle.coercion_norm.specs.Objects.{Object}
 use Rattle.coer_core.specs.Tally.{decision_kind}
 use Rattle.flat_ir.specs.Bodies.{Proc}
 use Rattle.flat_ir.specs.Counts.{decision_at}
-use Rattle.flat_ir.specs.FlatTally.{kind_cost, cast_cost, piled_prices}
+use Rattle.flat_ir.specs.FlatTally.{cast_cost}
+use Rattle.coer_core.specs.TurnPrices.{kind_cost, piled_prices}
 use Rattle.flat_ir.specs.Machine.{FlatValue, FlatFrame, FlatStore, flat_arity, flat_entered, flat_cast}
 use Rattle.rt_cast.specs.States.{heap_of}
 use Rattle.lower.specs.Storage.{Filled}

@@ -17,7 +17,7 @@ use Rattle.low_ir.specs.Operations.{compute}
 use Rattle.low_ir.specs.Prices.{entering, entering_some}
 use Rattle.low_ir.specs.Procedures.{Code, Done, Load, Compute, Return as ReturnCode, Proc as LowProc}
 use Rattle.low_ir.specs.Steps.{Locals, no_locals, set_local, may_load}
-use Rattle.low_ir.specs.Run.{Setting, LowState, bind, word_of}
+use Rattle.low_ir.specs.Run.{Setting, LowState, bind, word_of, entered}
 use Rattle.cast_modes.specs.Modes.{TypeCast, piling}
 use Rattle.cast_modes.specs.RunValues.{RunInt, RunLoc}
 use Rattle.cast_modes.specs.RunValues.{in_row}
@@ -27,11 +27,12 @@ use Rattle.coercion_norm.specs.Held.{Layout, There}
 use Rattle.coercion_norm.specs.Objects.{Object, Cell}
 use Rattle.coercion_norm.specs.ObjectsOfRows.{header}
 use Rattle.flat_ir.specs.Bodies.{Proc}
-use Rattle.flat_ir.specs.FlatTally.{act_cost, piled_prices}
+use Rattle.flat_ir.specs.FlatTally.{act_cost}
+use Rattle.coer_core.specs.TurnPrices.{piled_prices}
 use Rattle.flat_ir.specs.Machine.{FlatValue, FlatFrame, FlatStore, FlatAfter, flat_arity, flat_entered, flat_operate}
-use Rattle.rt_cast.specs.States.{Placed, entered, heap_of}
+use Rattle.rt_cast.specs.States.{Placed, heap_of}
 use Rattle.rt_cast.proofs.Public.{count_read, lt_false}
-use Rattle.rt_refs.specs.TrapCodes.{trap_code}
+use Rattle.low_ir.specs.Codes.{trap_code}
 use Rattle.lower.specs.CarriedValues.{AreCarried, CellHeld}
 use Rattle.lower.specs.SchemeLaws.{After, Aim, StopsNow, operator_leaves}
 use Rattle.lower.proofs.Public.{as_many}

@@ -21,9 +21,9 @@ use Rattle.cast_modes.specs.Modes.{TypeCast}
 use Rattle.coercion_norm.specs.Objects.{Object}
 use Rattle.coercion_norm.specs.Held.{Layout}
 use Rattle.flat_ir.specs.Bodies.{Proc}
-use Rattle.rt_cast.specs.Frames.{stack_room, waiting_room}
+use Rattle.low_ir.specs.Frames.{stack_room, waiting_room}
 use Rattle.rt_cast.specs.States.{Heap, heap_of}
-use Rattle.rt_refs.specs.TrapCodes.{trap_code}
+use Rattle.low_ir.specs.Codes.{trap_code}
 use Rattle.lower.specs.Storage.{Filled}
 use Rattle.lower.specs.SchemeLaws.{OnWay, StopsNow, Walks}
 use Rattle.lower.proofs.Public.{By, by_go, by_weaken, calls_blame, in_front}

@@ -10,7 +10,7 @@ use Rattle.low_ir.specs.declared.code.LowSource.TheVariants.{Word, Number}
 use Rattle.low_ir.specs.Prices.{entering_some}
 use Rattle.low_ir.specs.Procedures.{Code, Done, Return as ReturnCode}
 use Rattle.low_ir.specs.Steps.{Locals, no_locals, set_local}
-use Rattle.low_ir.specs.Run.{Setting, LowState, bind}
+use Rattle.low_ir.specs.Run.{Setting, LowState, bind, entered}
 use Rattle.cast_modes.specs.Modes.{TypeCast, piling}
 use Rattle.cast_modes.specs.RunValues.{RunInt, RunBool, RunUnit, RunFun, RunTuple, RunLoc, RunWrap, RunInject}
 use Rattle.cast_modes.specs.ValueSteps.{CastFrame, PrimFrame, Return, On, on_some, run_writes_cell}
@@ -18,11 +18,12 @@ use Rattle.coercion_norm.specs.Held.{Layout, There}
 use Rattle.coercion_norm.specs.Objects.{Object, Cell}
 use Rattle.coercion_norm.specs.ObjectsOfRows.{header}
 use Rattle.flat_ir.specs.Bodies.{Proc}
-use Rattle.flat_ir.specs.FlatTally.{act_cost, piled_prices}
+use Rattle.flat_ir.specs.FlatTally.{act_cost}
+use Rattle.coer_core.specs.TurnPrices.{piled_prices}
 use Rattle.flat_ir.specs.Machine.{FlatValue, FlatFrame, FlatStore, FlatAfter, flat_arity, flat_entered}
 use Rattle.flat_ir.specs.Machine.{flat_operate}
-use Rattle.rt_cast.specs.PartCodes.{blame_code}
-use Rattle.rt_cast.specs.States.{Placed, entered, heap_of}
+use Rattle.low_ir.specs.Codes.{blame_code}
+use Rattle.rt_cast.specs.States.{Placed, heap_of}
 use Rattle.lower.specs.SchemeLaws.{After, Aim, StopsNow, Walks, operator_leaves}
 use Rattle.lower.specs.Storage.{Filled}
 use Rattle.lower.proofs.Public.{as_many}

@@ -5,12 +5,11 @@ use Rattle.machine_words.specs.declared.conditions.Cond.TheVariants.{Eq, Ltu}
 use Rattle.low_ir.specs.declared.code.LowSource.TheVariants.{Word, Number}
 use Rattle.low_ir.specs.declared.code.WordOp.TheVariants.{Add, And, Sll, Srl, Sub}
 use Rattle.low_ir.specs.Procedures.{Code, Set, Compute, Load, Store, Build, Return, TailCall, Proc}
-use Rattle.rt_cast.specs.PartCodes.{proc, either, blame_code}
-use Rattle.rt_cast.specs.Words.{kind_mask, count_bits, word_shift}
+use Rattle.low_ir.specs.Codes.{proc, either, blame_code, trap_code}
+use Rattle.object_layout.specs.Words.{kind_mask, count_bits, word_shift}
 use Rattle.rt_refs.specs.CellCodes.{asks_box, asks_length}
 use Rattle.rt_refs.specs.FillCodes.{fill_loop, fill_proc}
 use Rattle.rt_refs.specs.Quotients.{arithmetic_procs}
-use Rattle.rt_refs.specs.TrapCodes.{trap_code}
 use Rattle.lower.specs.declared.served.Served.{Served}
 use Rattle.piled_scheme.specs.Piling.{wrapper_kind, wrapper_header}
 

@@ -13,7 +13,7 @@ use Rattle.coercion_norm.specs.Held.{Layout, There}
 use Rattle.coercion_norm.specs.Nodes.{Node}
 use Rattle.coercion_norm.specs.ObjectsOfRows.{header}
 use Rattle.coercion_norm.specs.Statics.{layout_of}
-use Rattle.flat_ir.specs.FlatTally.{piled_prices}
+use Rattle.coer_core.specs.TurnPrices.{piled_prices}
 use Rattle.lower.specs.Meanings.{Meaning, IsOwn}
 use Rattle.lower.specs.MergedMeaning.{width_of}
 

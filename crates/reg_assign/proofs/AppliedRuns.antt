@@ -21,10 +21,10 @@ use Rattle.assembler.specs.Prices.{state_price}
 use Rattle.rv_select.specs.Prices.{virtual_price}
 use Rattle.rv_select.proofs.Public.{unmetered}
 use Rattle.rv_select.specs.Stacks.{frame_size, stacked_machine}
-use Rattle.rv_slots.specs.Slotted.{Starts, setting_in, room_in, start_in, IsSeenAs, FollowsVirtual, EntersBeyond}
-use Rattle.rv_slots.specs.Slotted.{EndsToo, EndsAsVirtual, frames_of, last_frame}
-use Rattle.rv_slots.proofs.Public.{follows_in_stack, stops_as_virtual}
-use Rattle.rv_slots.proofs.Public.{fitting_never_wrong, fitting_simulates}
+use Rattle.reg_assign.specs.Slotted.{Starts, setting_in, room_in, start_in, IsSeenAs, FollowsVirtual, EntersBeyond}
+use Rattle.reg_assign.specs.Slotted.{EndsToo, EndsAsVirtual, frames_of, last_frame}
+use Rattle.reg_assign.proofs.slotted.SlotRuns.{follows_in_stack, stops_as_virtual}
+use Rattle.reg_assign.proofs.slotted.InStack.{fitting_never_wrong, fitting_simulates}
 use Rattle.reg_assign.specs.Rename.{Naming, densely, rename_all, renamed}
 use Rattle.reg_assign.specs.Sized.{stack_by, sized_machine, SameOrFewer}
 use Rattle.reg_assign.specs.Applied.{applied, slots_of, frames_by, last_frame_by, DoesInSlots, DoesAsVirtual}

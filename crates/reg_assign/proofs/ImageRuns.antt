@@ -36,8 +36,8 @@ use Rattle.rv_select.specs.Select.{select_items, registers_of}
 use Rattle.rv_select.specs.Selected.{SameRegion, Begins, Simulates, IsCodeOf}
 use Rattle.rv_select.specs.Stacks.{stacked_machine, frames_size, low_in_stack}
 use Rattle.rv_select.proofs.Public.{closed_entry, stack_held}
-use Rattle.rv_slots.specs.Slotted.{Starts, setting_in, room_in, start_in, IsSeenAs, EntersBeyond}
-use Rattle.rv_slots.specs.Slotted.{EndsToo}
+use Rattle.reg_assign.specs.Slotted.{Starts, setting_in, room_in, start_in, IsSeenAs, EntersBeyond}
+use Rattle.reg_assign.specs.Slotted.{EndsToo}
 use Rattle.reg_assign.specs.Places.{place_in}
 use Rattle.reg_assign.specs.Sized.{sized_machine}
 use Rattle.reg_assign.specs.Applied.{applied, slots_of, frames_by, last_frame_by, IsApplied}

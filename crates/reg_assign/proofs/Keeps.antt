@@ -16,8 +16,8 @@ use Rattle.rv_select.specs.Run.{may_read, is_own, Found}
 use Rattle.rv_select.specs.Holding.{may_hold, writes, reads, handed_on, Sets, IsHolding}
 use Rattle.rv_select.specs.Marks.{marks, Distinct}
 use Rattle.rv_select.specs.WellFormed.{IsWellFormed, IsReadable, marks_named}
-use Rattle.rv_slots.specs.Slotted.{HasFew, EachHasFew}
-use Rattle.rv_slots.proofs.Public.{slots_assemble, slots_spare, slots_begin}
+use Rattle.reg_assign.specs.Slotted.{HasFew, EachHasFew}
+use Rattle.reg_assign.proofs.slotted.SlotConditions.{slots_assemble, slots_spare, slots_begin}
 use Rattle.reg_assign.specs.Rename.{Naming, densely, rename, name, named, rename_all, renamed}
 use Rattle.reg_assign.specs.Applied.{applied, IsApplied}
 use Rattle.reg_assign.proofs.Dense.{near, few}

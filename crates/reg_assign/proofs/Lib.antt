@@ -1,3 +1,4 @@
+mod slotted
 mod Names
 mod Renaming
 mod Dense

@@ -17,10 +17,10 @@ use Rattle.rv_select.specs.declared.code.VirtualItem.TheVariants.{CodeOf, Mark, 
 use Rattle.rv_select.specs.declared.code.VirtualItem.TheVariants.{TailCall, TailCallAt, Return, Environment}
 use Rattle.rv_select.specs.Run.{Found, is_own}
 use Rattle.rv_select.specs.Holding.{reads, Among, may_hold}
-use Rattle.rv_slots.specs.Slots.{is_half, upper_of, lower_of, chunk_of, chunk_items, word_items, slot_offset}
+use Rattle.reg_assign.specs.Slots.{is_half, upper_of, lower_of, chunk_of, chunk_items, word_items, slot_offset}
 use Rattle.rv_select.specs.Stacks.{frame_size}
-use Rattle.rv_slots.specs.Slots.{slot_fetch, slot_save_of, slot_save, fetch_items, save_items, register_for}
-use Rattle.rv_slots.specs.Slots.{constant_items, move_items, raise_items, leave_items, op_inst, op_with, expand}
+use Rattle.reg_assign.specs.Slots.{slot_fetch, slot_save_of, slot_save, fetch_items, save_items, register_for}
+use Rattle.reg_assign.specs.Slots.{constant_items, move_items, raise_items, leave_items, op_inst, op_with, expand}
 use Rattle.reg_assign.specs.Rename.{densely, named, name, rename, index_of, kept_in}
 use Rattle.reg_assign.specs.Prices.{word_price, reach, register_price, constant_price, move_price, raise_price}
 use Rattle.reg_assign.specs.Prices.{leave_price, price, OwnsNamed}

@@ -13,8 +13,8 @@ use Rattle.rv_select.specs.declared.code.VirtualItem.TheVariants.{Procedure}
 use Rattle.rv_select.specs.Marks.{procedures, numbers_from}
 use Rattle.rv_select.specs.Select.{select_items}
 use Rattle.rv_select.specs.Selected.{IsCodeOf}
-use Rattle.rv_slots.specs.Slots.{expand, expand_all, final_items}
-use Rattle.rv_slots.specs.Slotted.{free_mark}
+use Rattle.reg_assign.specs.Slots.{expand, expand_all, final_items}
+use Rattle.reg_assign.specs.Slotted.{free_mark}
 use Rattle.reg_assign.specs.Places.{place_in}
 use Rattle.reg_assign.specs.Rename.{Naming, densely, rename_all, renamed}
 use Rattle.reg_assign.specs.Applied.{IsApplied}

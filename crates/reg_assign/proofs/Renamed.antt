@@ -4,7 +4,7 @@ use Rattle.std.proofs.Common.{append_assoc, get_or, drop, drop-cons, add-one}
 use Rattle.std.specs.Prelude.{◌<◌, ◌^◌, ◌&&◌, length}
 use Rattle.rv_select.specs.declared.code.Place.{Place}
 use Rattle.rv_select.specs.Holding.{place_of}
-use Rattle.rv_slots.specs.Slotted.{HasFew, EachHasFew}
+use Rattle.reg_assign.specs.Slotted.{HasFew, EachHasFew}
 use Rattle.rv_select.specs.declared.code.VReg.{VReg}
 use Rattle.rv_select.specs.declared.code.VirtualItem.{VirtualItem}
 use Rattle.rv_select.specs.declared.code.VirtualItem.TheVariants.{Constant, Move, Compute, ComputeWith, Load, Store}

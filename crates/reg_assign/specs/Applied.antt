@@ -18,9 +18,9 @@ use Rattle.rv_select.specs.Prices.{virtual_price}
 use Rattle.rv_select.specs.Stacks.{frame_size}
 use Rattle.rv_select.specs.Marks.{marks, Distinct}
 use Rattle.rv_select.specs.WellFormed.{IsWellFormed}
-use Rattle.rv_slots.specs.Slots.{slots_items, slot_offset}
-use Rattle.rv_slots.specs.Slotted.{free_mark, Starts, setting_in, room_in, start_in, FollowsVirtual}
-use Rattle.rv_slots.specs.Slotted.{EndsAsVirtual, SparesLast, ProceduresBegin}
+use Rattle.reg_assign.specs.Slots.{slots_items, slot_offset}
+use Rattle.reg_assign.specs.Slotted.{free_mark, Starts, setting_in, room_in, start_in, FollowsVirtual}
+use Rattle.reg_assign.specs.Slotted.{EndsAsVirtual, SparesLast, ProceduresBegin}
 use Rattle.reg_assign.specs.Rename.{renamed, densely}
 use Rattle.reg_assign.specs.Sized.{stack_by, sized_machine}
 

@@ -25,7 +25,7 @@ use Rattle.rv_select.specs.declared.code.Place.{Place}
 use Rattle.rv_select.specs.Prices.{start_price}
 use Rattle.rv_select.specs.Select.{select_items, registers_of}
 use Rattle.rv_select.specs.Stacks.{frame_size, frames_size, low_in_stack}
-use Rattle.rv_slots.specs.Slotted.{room_in}
+use Rattle.reg_assign.specs.Slotted.{room_in}
 use Rattle.reg_assign.specs.Places.{place_in}
 use Rattle.reg_assign.specs.Applied.{applied}
 use Rattle.reg_assign.specs.Room.{IsBest}

@@ -1,3 +1,5 @@
+pub mod Slots
+pub mod Slotted
 pub mod Places
 pub mod Rename
 pub mod Sized

@@ -10,7 +10,7 @@ use Rattle.rv_select.specs.declared.code.VirtualItem.TheVariants.{TailCall, Tail
 use Rattle.rv_select.specs.Run.{Found, is_own}
 use Rattle.rv_select.specs.Holding.{reads, writes, Among}
 use Rattle.rv_select.specs.Stacks.{frame_size}
-use Rattle.rv_slots.specs.Slots.{is_half, slot_offset}
+use Rattle.reg_assign.specs.Slots.{is_half, slot_offset}
 
 -- the instructions that put a word into a register
 abbrev pub word_price : ℕ → ℕ

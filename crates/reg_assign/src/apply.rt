@@ -4,18 +4,18 @@
 ghost use Rattle.std.specs.Prelude.{◌≡◌, ◌<◌, ◌^◌, ◌+◌, ◌++◌, true, IfOk, OnOk, ℕ};
 ghost use Rattle.rv_select.specs.Fitting.{each_fits};
 ghost use Rattle.rv_select.specs.Holding.{place_of};
-ghost use Rattle.rv_slots.specs.Slotted.{EachHasFew};
+ghost use Rattle.reg_assign.specs.Slotted.{EachHasFew};
 ghost use Rattle.reg_assign.specs.Places.{place_in};
 ghost use Rattle.reg_assign.specs.Rename.{densely, kept_in, index_of, named, rename, rename_all, renamed};
 ghost use Rattle.reg_assign.specs.Check.{HasHolding};
 ghost use Rattle.reg_assign.specs.Applied.{IsApplied};
 
 use crate::assignment::{Assignment, place_at};
+use crate::slots::slots;
 use grift_base::lists::OutOfMemory;
 use indexmap::IndexSet;
 use rv_machine::real::RealCode;
 use rv_select::code::{Place, VReg, VirtualCode, VirtualItem, VirtualItems};
-use rv_slots::slots::slots;
 use std::alloc::Global;
 
 // The slots of a procedure, each once, in the order of the first register that is kept in it, and that procedure's

@@ -7,7 +7,7 @@ ghost use Rattle.rv_select.specs.declared.code.Place.TheVariants.{Slot};
 ghost use Rattle.rv_select.specs.declared.code.VirtualItem.{VirtualItem};
 ghost use Rattle.rv_select.specs.declared.code.VirtualItem.TheVariants.{Procedure};
 ghost use Rattle.rv_select.specs.Holding.{Sets, IsHolding};
-ghost use Rattle.rv_slots.specs.Slotted.{EachHasFew};
+ghost use Rattle.reg_assign.specs.Slotted.{EachHasFew};
 ghost use Rattle.reg_assign.specs.Applied.{applied, slots_of, IsApplied};
 ghost use Rattle.reg_assign.specs.Check.{HasHolding, AreAllowed, AreLargest, EachFinds, AreNeeded, NeedsAreKept};
 ghost use Rattle.reg_assign.specs.Check.{IsMaximal, IsGreedy, HasOwn};
@@ -16,7 +16,7 @@ ghost use Rattle.rv_select.specs.declared.code.Place.TheVariants.{InReg};
 ghost use Rattle.rv_select.specs.Run.{Found, Frame};
 ghost use Rattle.rv_select.specs.Stacks.{stack_of};
 ghost use Rattle.reg_assign.specs.Sized.{stack_by};
-ghost use Rattle.rv_slots.specs.Slots.{expand};
+ghost use Rattle.reg_assign.specs.Slots.{expand};
 ghost use Rattle.reg_assign.specs.Rename.{densely, name, rename};
 ghost use Rattle.reg_assign.specs.Prices.{price, OwnsNamed};
 

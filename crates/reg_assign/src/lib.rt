@@ -10,4 +10,6 @@ pub mod images;
 pub mod laws;
 mod named;
 mod positions;
+mod slot_parts;
+pub mod slots;
 mod walks;

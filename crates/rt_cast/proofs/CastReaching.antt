@@ -10,7 +10,7 @@ use Rattle.low_ir.specs.Steps.{Locals}
 use Rattle.low_ir.specs.Prices.{CostsAtMost}
 use Rattle.low_ir.specs.Run.{Setting, Waiting, LowState, word_of, low_machine}
 use Rattle.run_laws.specs.Machines.{Reaches}
-use Rattle.rt_cast.specs.Frames.{waiting_room, stack_room}
+use Rattle.low_ir.specs.Frames.{waiting_room, stack_room}
 use Rattle.coercion_norm.specs.Coercions.{Coercion}
 use Rattle.coercion_norm.proofs.Public.{bound_from_height}
 use Rattle.rt_cast.specs.Costs.{cast_cost}

@@ -3,7 +3,7 @@ use Rattle.std.proofs.Common.{true, false, ◌≡◌, inl, inr, ℕ, zero, suc, 
 use Rattle.std.proofs.Common.{List, [], ◌∷◌, ◌++◌, Option, Some, None, Bool, refl, ap, ap₂, ◌∙◌, map}
 use Rattle.std.proofs.Common.{subst, arith}
 use Rattle.std.specs.Prelude.{nat_lt, length}
-use Rattle.rt_cast.specs.Words.{kind_mask}
+use Rattle.object_layout.specs.Words.{kind_mask}
 use Rattle.rt_cast.specs.States.{Heap, st, Fine, Grows}
 use Rattle.grift_base.specs.Types.{TypeRow}
 use Rattle.low_ir.specs.Steps.{Locals, no_locals, set_local}
@@ -34,7 +34,7 @@ use Rattle.coercion_norm.specs.Held.{Layout, There, Held}
 use Rattle.coercion_norm.specs.ObjectsOfRows.{header, kind_number}
 use Rattle.rt_cast.specs.WholeObjects.{IsSolid, WholeProxy}
 use Rattle.rt_cast.specs.Procs.{coerce_proc, compose_proc, cast_proc}
-use Rattle.rt_cast.specs.PartCodes.{either}
+use Rattle.low_ir.specs.Codes.{either, blame_code}
 use Rattle.rt_cast.proofs.HeaderNumbers.{eq_true, eq_false, eq_cases, kind_read}
 use Rattle.rt_cast.proofs.Steps.{Budget, End, Out, Pay, More, return_price, at_most, WordThere, loads}
 use Rattle.rt_cast.proofs.Steps.{computes, if_true, if_false, builds, calls, tail_calls, comes_back, header_there}
@@ -52,7 +52,6 @@ use Rattle.rt_cast.proofs.Walks.{Walk}
 use Rattle.coercion_norm.specs.Held.{rows_in, height_in}
 use Rattle.rt_cast.specs.CastCodes.{cast_code, cast_kinds, cast_project, project_object, project_small, into_dyn}
 use Rattle.rt_cast.specs.ComposeCodes.{cast}
-use Rattle.rt_cast.specs.PartCodes.{blame_code}
 use Rattle.rt_cast.specs.DynWords.{small_dyn, IsDynBy}
 use Rattle.rt_cast.proofs.DynWords.{SmallIs, small_is, tag_read, no_tag, untagged, heads_by_kinds}
 use Rattle.rt_cast.proofs.IntoDyn.{dyn_still, dyn_small, untagged_there, kind_there, put_into_dyn}

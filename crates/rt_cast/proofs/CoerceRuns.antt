@@ -4,7 +4,7 @@ use Rattle.std.proofs.Common.{false, cond, List, [], ◌∷◌, ◌++◌, map, S
 use Rattle.std.proofs.Common.{subst, arith, length-append, eq-eqb, nat_eq}
 use Rattle.std.specs.Prelude.{◌==◌, ◌&&◌, slice_get, length, max, All}
 use Rattle.std.specs.Prelude.{slice_index}
-use Rattle.rt_cast.specs.Words.{kind_mask}
+use Rattle.object_layout.specs.Words.{kind_mask}
 use Rattle.rt_cast.specs.States.{Heap, st, Fine}
 use Rattle.grift_base.specs.Types.{TypeRow, IntRow, BoolRow, UnitRow, DynRow, FunRow, TupleRow, RefRow, VectRow}
 use Rattle.grift_base.specs.Types.{is_dyn, parts_of, same_head}
@@ -37,8 +37,8 @@ use Rattle.coercion_norm.specs.ObjectsOfRows.{header, kind_number, type_kind}
 use Rattle.coercion_norm.specs.Held.{rows_in, height_in}
 use Rattle.rt_cast.specs.WholeObjects.{IdWord, WholeFail, WholeInject, WholeProject}
 use Rattle.rt_cast.specs.Procs.{middle_proc}
-use Rattle.rt_cast.specs.PartCodes.{middle_code, either}
-use Rattle.rt_cast.specs.PartCodes.{part_code, proc, each_word, first_word}
+use Rattle.rt_cast.specs.PartCodes.{middle_code, part_code, each_word, first_word}
+use Rattle.low_ir.specs.Codes.{either, proc}
 use Rattle.rt_cast.specs.ComposeCodes.{raise}
 use Rattle.rt_cast.specs.ComposeCodes.{coerce, coerce_part, coerce_of}
 use Rattle.rt_cast.specs.CoerceCodes.{coerce_code, coerce_heads, coerce_kinds, coerce_alike, coerce_fail}

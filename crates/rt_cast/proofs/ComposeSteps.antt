@@ -3,7 +3,7 @@ use Rattle.std.proofs.Common.{◌≡◌, ◌⊎◌, inl, inr, ℕ, zero, suc, �
 use Rattle.std.proofs.Common.{false, cond, List, [], ◌∷◌, ◌++◌, map, Some, refl, sym, ap, ◌∙◌}
 use Rattle.std.proofs.Common.{subst, arith}
 use Rattle.std.specs.Prelude.{◌==◌, slice_get, length, max, min}
-use Rattle.rt_cast.specs.Words.{kind_mask}
+use Rattle.object_layout.specs.Words.{kind_mask}
 use Rattle.rt_cast.specs.States.{Heap, st, Fine}
 use Rattle.grift_base.specs.Types.{TypeRow, IntRow, BoolRow, UnitRow, DynRow, FunRow, TupleRow, RefRow, VectRow}
 use Rattle.grift_base.specs.Types.{parts_of}
@@ -30,8 +30,8 @@ use Rattle.coercion_norm.specs.ObjectsOfRows.{header, kind_number, type_kind}
 use Rattle.coercion_norm.specs.Held.{rows_in, height_in}
 use Rattle.rt_cast.specs.WholeObjects.{WholeInject, WholeProject}
 use Rattle.rt_cast.specs.Procs.{middle_proc, part_proc}
-use Rattle.rt_cast.specs.PartCodes.{middle_code, raise_code, final_code, either}
-use Rattle.rt_cast.specs.PartCodes.{part_code, pick, proc, each_word}
+use Rattle.rt_cast.specs.PartCodes.{middle_code, raise_code, final_code, part_code, pick, each_word}
+use Rattle.low_ir.specs.Codes.{either, proc}
 use Rattle.rt_cast.specs.ComposeCodes.{compose_code, compose_first, compose_third, compose_both, compose, part, raise}
 use Rattle.rt_cast.specs.ComposeCodes.{middle_of}
 use Rattle.rt_cast.specs.CoerceCodes.{coerce_code}

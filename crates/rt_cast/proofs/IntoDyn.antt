@@ -15,7 +15,7 @@ use Rattle.coercion_norm.specs.Held.{Layout, There, HoldsType, rows_in, height_i
 use Rattle.coercion_norm.specs.ObjectsOfRows.{header, type_kind}
 use Rattle.coercion_norm.proofs.Public.{found_within}
 use Rattle.object_layout.specs.DynWords.{is_narrow, tagged}
-use Rattle.rt_cast.specs.Words.{kind_mask}
+use Rattle.object_layout.specs.Words.{kind_mask}
 use Rattle.rt_cast.specs.CastCodes.{dyn_object, dyn_base, into_dyn, read_kind}
 use Rattle.rt_cast.specs.DynWords.{tag_of, behind_tag, small_dyn, IsDynBy, IsDyn}
 use Rattle.rt_cast.specs.States.{Grows, Heap, Fine, st}

@@ -28,7 +28,8 @@ use Rattle.object_layout.specs.declared.kinds.Kind.TheVariants.{Project as Proje
 use Rattle.object_layout.specs.Kinds.{is_coercion}
 use Rattle.coercion_norm.specs.StaticObjects.{middle_kind}
 use Rattle.rt_cast.specs.WholeObjects.{CoercionWord, IdWord, ObjectWord, Highest, WholeMiddle}
-use Rattle.rt_cast.specs.PartCodes.{results, finish_code, parts_code, middle_code, raise_code, proc}
+use Rattle.rt_cast.specs.PartCodes.{results, finish_code, parts_code, middle_code, raise_code}
+use Rattle.low_ir.specs.Codes.{proc}
 use Rattle.coercion_norm.proofs.Public.{object_behind}
 use Rattle.rt_cast.proofs.Objects.{chosen_true, AreSmall}
 use Rattle.rt_cast.proofs.HeaderNumbers.{eq_true, eq_cases, lt_true}

@@ -17,7 +17,7 @@ use Rattle.coercion_norm.specs.Objects.{words_of, words_of_all}
 use Rattle.coercion_norm.proofs.Public.{bytes_of_words, found_within}
 use Rattle.rt_cast.specs.Objects.{HasWord, HoldsWords}
 use Rattle.rt_cast.specs.Objects.{HoldsObject, Holds}
-use Rattle.rt_cast.specs.Words.{kind_mask}
+use Rattle.object_layout.specs.Words.{kind_mask}
 use Rattle.rt_cast.proofs.HeaderNumbers.{kind_read}
 
 pub none_some : {A B : Type 0} {a : A} → None ≡ Some a → B

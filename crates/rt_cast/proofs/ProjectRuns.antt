@@ -23,7 +23,7 @@ use Rattle.coercion_norm.specs.Heights.{coercion_height, highest, TypeNoHigher}
 use Rattle.cast_modes.specs.Modes.{part_to_dyn, cast_to_dyn, kept_part}
 use Rattle.coercion_norm.specs.MergedMode.{part_at, tuple_coercion}
 use Rattle.coercion_norm.specs.Normal.{IsNormal, AreNormal}
-use Rattle.rt_cast.specs.Words.{kind_mask}
+use Rattle.object_layout.specs.Words.{kind_mask}
 use Rattle.rt_cast.specs.Costs.{tuple_cost, project_cost}
 use Rattle.rt_cast.specs.LightCasts.{cast_words_of, cast_price_of}
 use Rattle.rt_cast.specs.PartCosts.{of_cast, of_part, dyn_part_words, dyn_part_price}
@@ -39,7 +39,7 @@ use Rattle.rt_cast.proofs.IntoDyn.{untagged_there, kind_there, put_into_dyn}
 use Rattle.low_ir.specs.Operations.{compute}
 use Rattle.object_layout.specs.declared.kinds.Kind.TheVariants.{Proxy}
 use Rattle.object_layout.specs.Kinds.{kind_number as number_of}
-use Rattle.rt_cast.specs.PartCodes.{either}
+use Rattle.low_ir.specs.Codes.{either}
 use Rattle.rt_cast.specs.Procs.{cast_proc, project_proc}
 use Rattle.rt_cast.specs.States.{Grows, Heap, Fine, st}
 use Rattle.rt_cast.specs.MergedValues.{Merged, Base, Solid, Proxied, InDyn, Outcome, Stuck, Gives, Blames, then_outcome}

@@ -11,7 +11,7 @@ use Rattle.coercion_norm.proofs.Public.{bound_from_height}
 use Rattle.rt_cast.specs.Costs.{coerce_cost, compose_cost, coerce_words, compose_words, coerce_price, compose_price}
 use Rattle.coercion_norm.specs.Objects.{Object}
 use Rattle.coercion_norm.specs.Held.{Layout, Held, HoldsType, rows_in, height_in}
-use Rattle.rt_cast.specs.Frames.{waiting_room}
+use Rattle.low_ir.specs.Frames.{waiting_room}
 use Rattle.rt_cast.specs.Procs.{coerce_proc, compose_proc}
 use Rattle.rt_cast.specs.States.{Filled, Fine, OnTheWay, Within, HeldAt, IsReady, ComesToHeld, around, heap_of}
 use Rattle.rt_cast.proofs.Walks.{Walk}

@@ -5,7 +5,7 @@ use Rattle.machine_words.specs.Halts.{Halt, Lacks, Region}
 use Rattle.low_ir.specs.Run.{Setting, Active, Waiting, LowState, code_turns}
 use Rattle.coercion_norm.specs.Objects.{Object}
 use Rattle.coercion_norm.specs.Held.{Layout, TypesStand}
-use Rattle.rt_cast.specs.Frames.{frame_room, waiting_room}
+use Rattle.low_ir.specs.Frames.{frame_room, waiting_room}
 use Rattle.rt_cast.specs.Procs.{Stand}
 use Rattle.rt_cast.specs.States.{Heap, Around, Fine, Placed}
 

@@ -9,7 +9,7 @@ use Rattle.machine_words.specs.Halts.{Halt}
 use Rattle.low_ir.specs.declared.code.LowSource.{LowSource}
 use Rattle.low_ir.specs.Procedures.{Code, Proc, Return, Environment}
 use Rattle.low_ir.specs.Prices.{CostsAtMost}
-use Rattle.low_ir.specs.Run.{Setting, LowState, word_of, low_machine}
+use Rattle.low_ir.specs.Run.{Setting, LowState, word_of, low_machine, entered}
 use Rattle.object_layout.specs.declared.kinds.Kind.TheVariants.{Proxy, Tuple}
 use Rattle.object_layout.specs.Kinds.{kind_number}
 use Rattle.coercion_norm.specs.Coercions.{Coercion}
@@ -20,7 +20,7 @@ use Rattle.coercion_norm.specs.Held.{Layout, There, Held, rows_in, height_in}
 use Rattle.coercion_norm.specs.ObjectsOfRows.{header}
 use Rattle.rt_cast.specs.DynWords.{IsDyn}
 use Rattle.rt_cast.specs.WholeObjects.{IsSolid}
-use Rattle.rt_cast.specs.States.{Grows, Fine, OnTheWay, Within, around, heap_of, entered}
+use Rattle.rt_cast.specs.States.{Grows, Fine, OnTheWay, Within, around, heap_of}
 use Rattle.rt_cast.specs.MergedValues.{Merged, Base, Solid, Proxied, InDyn, Outcome, Stuck, Gives, Blames}
 
 module _ (l : Layout) where

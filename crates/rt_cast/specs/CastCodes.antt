@@ -8,8 +8,8 @@ use Rattle.low_ir.specs.declared.code.LowSource.TheVariants.{Word, Number}
 use Rattle.low_ir.specs.declared.code.WordOp.TheVariants.{Add, Sub, And, Sll, Srl, Sra}
 use Rattle.low_ir.specs.Procedures.{Code, Compute, Load, Build, Call, Return, TailCall}
 use Rattle.coercion_norm.specs.ObjectsOfRows.{header}
-use Rattle.rt_cast.specs.Words.{kind_mask, count_bits, type_over_tag, tag_bits, tag_mask, word_shift}
-use Rattle.rt_cast.specs.PartCodes.{either, blame_code}
+use Rattle.object_layout.specs.Words.{kind_mask, count_bits, type_over_tag, tag_bits, tag_mask, word_shift}
+use Rattle.low_ir.specs.Codes.{either, blame_code}
 use Rattle.rt_cast.specs.ComposeCodes.{coerce, compose, cast, project}
 
 -- ---- a value in Dyn: word 8 is the address of the type that it keeps, word 9 the value, and word 6 the kind of the

@@ -7,8 +7,9 @@ use Rattle.low_ir.specs.declared.code.LowSource.TheVariants.{Word, Number}
 use Rattle.low_ir.specs.declared.code.WordOp.TheVariants.{And, Sub, Srl}
 use Rattle.low_ir.specs.Procedures.{Code, Compute, Load, Build, Call, Return, TailCall}
 use Rattle.coercion_norm.specs.ObjectsOfRows.{header}
-use Rattle.rt_cast.specs.Words.{kind_mask, count_bits, type_over_middle}
-use Rattle.rt_cast.specs.PartCodes.{either, put_header, pick}
+use Rattle.object_layout.specs.Words.{kind_mask, count_bits, type_over_middle}
+use Rattle.rt_cast.specs.PartCodes.{put_header, pick}
+use Rattle.low_ir.specs.Codes.{either}
 use Rattle.rt_cast.specs.ComposeCodes.{raise, pair, coerce_of}
 
 -- a Fail with the label

@@ -8,8 +8,9 @@ use Rattle.low_ir.specs.declared.code.LowSource.TheVariants.{Word, Number}
 use Rattle.low_ir.specs.declared.code.WordOp.TheVariants.{And, Srl}
 use Rattle.low_ir.specs.Procedures.{Code, Compute, Load, Build, Call, Return, TailCall}
 use Rattle.coercion_norm.specs.ObjectsOfRows.{header}
-use Rattle.rt_cast.specs.Words.{kind_mask, count_bits}
-use Rattle.rt_cast.specs.PartCodes.{either, put_header, pick}
+use Rattle.object_layout.specs.Words.{kind_mask, count_bits}
+use Rattle.rt_cast.specs.PartCodes.{put_header, pick}
+use Rattle.low_ir.specs.Codes.{either}
 
 -- Which place a procedure has among all of them; its number is the place behind the first number.
 abbrev pub coerce_place : ℕ

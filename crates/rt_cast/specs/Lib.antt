@@ -1,4 +1,3 @@
-pub mod Words
 pub mod Objects
 pub mod WholeObjects
 pub mod PartCodes
@@ -10,7 +9,6 @@ pub mod Procs
 pub mod States
 pub mod ToldRows
 pub mod Costs
-pub mod Frames
 pub mod MergedValues
 pub mod PartValues
 pub mod DynWords

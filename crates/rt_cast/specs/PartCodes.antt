@@ -1,31 +1,18 @@
 -- What the procedures share: heights of objects, and middles that are made part by part.
 use Rattle.std.specs.Prelude.{ℕ, zero, suc, ◌+◌, ◌*◌, List, [], ◌∷◌}
-use Rattle.grift_base.specs.declared.environment.TheConstants.{BLAME_CALL}
-use Rattle.machine_words.specs.declared.conditions.Cond.{Cond}
 use Rattle.machine_words.specs.declared.conditions.Cond.TheVariants.{Eq, Ltu}
 use Rattle.object_layout.specs.declared.kinds.Kind.TheVariants.{Fun, Tup, Project}
 use Rattle.object_layout.specs.Kinds.{kind_number}
 use Rattle.low_ir.specs.declared.code.LowSource.{LowSource}
 use Rattle.low_ir.specs.declared.code.LowSource.TheVariants.{Word, Number}
 use Rattle.low_ir.specs.declared.code.WordOp.TheVariants.{Add, And, Sll, Srl, Sltu}
-use Rattle.low_ir.specs.Procedures.{Code, Done, Set, Compute, Load, Build, Environment, Call, If, Return, TailCall}
-use Rattle.low_ir.specs.Procedures.{Proc}
-use Rattle.rt_cast.specs.Words.{kind_mask, height_bits, height_mask, count_unit}
-
-abbrev pub proc : ℕ → ℕ → Code → Proc
-proc params words code = record { params = params; words = words; code = code }
-
--- one or the other, with no code behind
-abbrev pub either : Cond → LowSource → LowSource → Code → Code → Code
-either cond a b one other = If cond a b one other Done
+use Rattle.low_ir.specs.Procedures.{Code, Set, Compute, Load, Build, Call, Return, TailCall}
+use Rattle.low_ir.specs.Codes.{either}
+use Rattle.object_layout.specs.Words.{kind_mask, height_bits, height_mask, count_unit}
 
 -- the header of an object with the height that a word holds, put into the word
 abbrev pub put_header : ℕ → ℕ → Code → Code
 put_header d low rest = Compute Sll d (Word d) (Number height_bits) (Compute Add d (Word d) (Number low) rest)
-
--- a label is blamed
-abbrev pub blame_code : LowSource → Code
-blame_code label = Environment BLAME_CALL label (Number 0) 4 5 (Return (Number 0))
 
 -- words 0 and 1 are a height, and an object or 0: the greater of the height and the object's
 abbrev pub raise_code : Code

@@ -2,7 +2,8 @@
 use Rattle.std.specs.Prelude.{◌≡◌, ℕ, zero, suc, ◌+◌, List, [], ◌∷◌, ◌++◌, Some, slice_get}
 use Rattle.low_ir.specs.declared.code.LowSource.TheVariants.{Word}
 use Rattle.low_ir.specs.Procedures.{TailCall, Proc}
-use Rattle.rt_cast.specs.PartCodes.{proc, raise_code, final_code, part_code, middle_code, each_word, first_word}
+use Rattle.rt_cast.specs.PartCodes.{raise_code, final_code, part_code, middle_code, each_word, first_word}
+use Rattle.low_ir.specs.Codes.{proc}
 use Rattle.rt_cast.specs.ComposeCodes.{coerce, compose, part, raise, coerce_part, compose_code}
 use Rattle.rt_cast.specs.CoerceCodes.{coerce_code}
 use Rattle.rt_cast.specs.CastCodes.{cast_code, project_code}

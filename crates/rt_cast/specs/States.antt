@@ -7,12 +7,12 @@ use Rattle.machine_words.specs.Memory.{Memory}
 use Rattle.machine_words.specs.Halts.{Halt}
 use Rattle.low_ir.specs.declared.code.LowSource.{LowSource}
 use Rattle.low_ir.specs.Procedures.{Code, Proc, Return}
-use Rattle.low_ir.specs.Steps.{Locals, no_locals}
+use Rattle.low_ir.specs.Steps.{Locals}
 use Rattle.low_ir.specs.Prices.{CostsAtMost}
-use Rattle.low_ir.specs.Run.{Setting, Waiting, LowState, bind, word_of, low_machine, low_turns}
+use Rattle.low_ir.specs.Run.{Setting, Waiting, LowState, entered, word_of, low_machine, low_turns}
 use Rattle.coercion_norm.specs.Coercions.{Coercion}
 use Rattle.coercion_norm.specs.Objects.{Object, bytes_of_all}
-use Rattle.rt_cast.specs.Frames.{stack_room, waiting_room}
+use Rattle.low_ir.specs.Frames.{stack_room, waiting_room}
 use Rattle.rt_cast.specs.Objects.{Holds}
 use Rattle.coercion_norm.specs.Held.{Layout, Held, TypesStand}
 use Rattle.rt_cast.specs.WholeObjects.{Wholes}
@@ -52,11 +52,6 @@ st world count locals code rests waiting h = record {
   world = world.world;
   words = h.words;
 }
-
--- the state in which a procedure was entered with these words
-abbrev pub entered : LowState → Proc → List ℕ → LowState
-entered s p words =
-    record s { active = record { count = p.words; locals = bind 0 words no_locals; code = p.code; rests = [] } }
 
 -- statics and region lie behind one another, below the region's end
 pub record Placed (setting : Setting) (l : Layout) : Type 0 where

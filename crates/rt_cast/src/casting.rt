@@ -8,17 +8,16 @@ ghost use Rattle.rt_cast.specs.CastCodes.{cast_kinds, project_dyn_part, project_
 ghost use Rattle.rt_cast.specs.CastCodes.{project_tuple};
 ghost use Rattle.rt_cast.specs.Procs.{cast_proc, project_proc};
 
-use crate::codes::{blame, build, call, compute, either, load, tail_call};
 use crate::numbers::CastProc;
-use crate::words::{
-    COUNT_BITS, KIND_MASK, TAG_BITS, TAG_MASK, TYPE_OVER_TAG, WORD_SHIFT, header, kind,
-};
+use crate::words::{header, kind};
 use grift_base::lists::OutOfMemory;
 use low_ir::code::LowSource::{Number, Word};
 use low_ir::code::{LowCode, WordOp};
+use low_ir::codes::{blame, build, call, compute, either, load, tail_call};
 use low_ir::programs::LowProc;
 use machine_words::conditions::Cond;
 use object_layout::kinds::Kind;
+use object_layout::words::{COUNT_BITS, KIND_MASK, TAG_BITS, TAG_MASK, TYPE_OVER_TAG, WORD_SHIFT};
 use std::alloc::Global;
 
 // A value in Dyn as an object: word 8 is the type that it keeps, word 9 the value.

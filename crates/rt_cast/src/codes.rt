@@ -1,126 +1,15 @@
-// Code in front of other code.
+// Code in front of other code, beside what `low_ir::codes` has.
 
 ghost use Rattle.std.specs.Prelude.{◌≡◌, IfOk};
-ghost use Rattle.low_ir.specs.Procedures.{Set, Compute, Load, Build, Call, If, TailCall};
 ghost use Rattle.low_ir.specs.Views.{code_of};
-ghost use Rattle.rt_cast.specs.PartCodes.{either, put_header, blame_code};
+ghost use Rattle.rt_cast.specs.PartCodes.{put_header};
 
-use crate::words::HEIGHT_BITS;
-use grift_base::environment::BLAME_CALL;
 use grift_base::lists::OutOfMemory;
 use low_ir::code::LowSource::{Number, Word};
-use low_ir::code::{LowCode, LowSource, LowSources, WordOp};
-use machine_words::conditions::Cond;
+use low_ir::code::{LowCode, WordOp};
+use low_ir::codes::compute;
+use object_layout::words::HEIGHT_BITS;
 use std::alloc::Global;
-
-/// A word is set, and then the rest is done.
-pub fn set(
-    alloc: Global,
-    word: u32,
-    source: LowSource,
-    rest: LowCode,
-) -> Result<LowCode, OutOfMemory>
-    ensures { IfOk result (λ code. code_of code ≡ Set word source (code_of rest)) }
-{
-    let rest = Box::new(alloc, rest)?;
-    Ok(LowCode::Set(word, source, rest))
-}
-
-/// A word is set to what an operation gives of two, and then the rest is done.
-pub fn compute(
-    alloc: Global,
-    op: WordOp,
-    word: u32,
-    operands: (LowSource, LowSource),
-    rest: LowCode,
-) -> Result<LowCode, OutOfMemory>
-    ensures { IfOk result (λ code. code_of code ≡ Compute op word operands.0 operands.1 (code_of rest)) }
-{
-    let rest = Box::new(alloc, rest)?;
-    Ok(LowCode::Compute(op, word, operands.0, operands.1, rest))
-}
-
-/// A word is loaded from an address and an offset in bytes, and then the rest is done.
-pub fn load(
-    alloc: Global,
-    word: u32,
-    address: LowSource,
-    offset: u32,
-    rest: LowCode,
-) -> Result<LowCode, OutOfMemory>
-    ensures { IfOk result (λ code. code_of code ≡ Load word address offset (code_of rest)) }
-{
-    let rest = Box::new(alloc, rest)?;
-    Ok(LowCode::Load(word, address, offset, rest))
-}
-
-/// An object of these words is built, and then the rest is done.
-pub fn build(
-    alloc: Global,
-    word: u32,
-    words: &[LowSource],
-    rest: LowCode,
-) -> Result<LowCode, OutOfMemory>
-    ensures { IfOk result (λ code. code_of code ≡ Build word words.now (code_of rest)) }
-{
-    let words = LowSources::from_slice(alloc, words)?;
-    let rest = Box::new(alloc, rest)?;
-    Ok(LowCode::Build(word, words, rest))
-}
-
-/// A procedure is called with these words, and then the rest is done.
-pub fn call(
-    alloc: Global,
-    word: u32,
-    procedure: u32,
-    words: &[LowSource],
-    rest: LowCode,
-) -> Result<LowCode, OutOfMemory>
-    ensures { IfOk result (λ code. code_of code ≡ Call word procedure words.now (code_of rest)) }
-{
-    let words = LowSources::from_slice(alloc, words)?;
-    let rest = Box::new(alloc, rest)?;
-    Ok(LowCode::Call(word, procedure, words, rest))
-}
-
-/// A procedure goes on with these words.
-pub fn tail_call(alloc: Global, procedure: u32, words: &[LowSource]) -> Result<LowCode, OutOfMemory>
-    ensures { IfOk result (λ code. code_of code ≡ TailCall procedure words.now) }
-{
-    let words = LowSources::from_slice(alloc, words)?;
-    Ok(LowCode::TailCall(procedure, words))
-}
-
-/// What is done where a condition holds of two words, what where not, and what behind both.
-pub fn choose(
-    alloc: Global,
-    cond: Cond,
-    operands: (LowSource, LowSource),
-    branches: (LowCode, LowCode),
-    rest: LowCode,
-) -> Result<LowCode, OutOfMemory>
-    ensures { IfOk result (λ code. code_of code ≡ If cond operands.0 operands.1 (code_of branches.0)
-        (code_of branches.1) (code_of rest)) }
-{
-    let (one, other) = branches;
-    let one = Box::new(alloc, one)?;
-    let other = Box::new(alloc, other)?;
-    let rest = Box::new(alloc, rest)?;
-    Ok(LowCode::If(cond, operands.0, operands.1, one, other, rest))
-}
-
-/// One of two codes is done, by whether a condition holds of two words.
-pub fn either(
-    alloc: Global,
-    cond: Cond,
-    operands: (LowSource, LowSource),
-    branches: (LowCode, LowCode),
-) -> Result<LowCode, OutOfMemory>
-    ensures { IfOk result (λ code. code_of code ≡ either cond operands.0 operands.1 (code_of branches.0)
-        (code_of branches.1)) }
-{
-    choose(alloc, cond, operands, branches, LowCode::Done)
-}
 
 /// A word becomes the header of an object, whose height it was; the header is told without its height.
 pub fn put_header(
@@ -139,12 +28,4 @@ pub fn put_header(
         (Word(word), Number(HEIGHT_BITS)),
         rest,
     )
-}
-
-/// A label is blamed.
-pub fn blame(alloc: Global, label: LowSource) -> Result<LowCode, OutOfMemory>
-    ensures { IfOk result (λ code. code_of code ≡ blame_code label) }
-{
-    let rest = Box::new(alloc, LowCode::Return(Number(0)))?;
-    Ok(LowCode::Environment(BLAME_CALL, label, Number(0), 4, 5, rest))
 }

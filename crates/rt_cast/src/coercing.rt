@@ -6,16 +6,18 @@ ghost use Rattle.rt_cast.specs.CoerceCodes.{coerce_fail, coerce_alike, coerce_he
 ghost use Rattle.rt_cast.specs.CoerceCodes.{coerce_from_dyn, coerce_to_dyn};
 ghost use Rattle.rt_cast.specs.Procs.{coerce_proc};
 
-use crate::codes::{build, call, compute, either, load, put_header, tail_call};
+use crate::codes::put_header;
 use crate::numbers::{COERCE_MIDDLES, CastProc};
 use crate::parts::pick;
-use crate::words::{COUNT_BITS, KIND_MASK, TYPE_OVER_MIDDLE, header, kind};
+use crate::words::{header, kind};
 use grift_base::lists::OutOfMemory;
 use low_ir::code::LowSource::{Number, Word};
 use low_ir::code::{LowCode, WordOp};
+use low_ir::codes::{build, call, compute, either, load, tail_call};
 use low_ir::programs::LowProc;
 use machine_words::conditions::Cond;
 use object_layout::kinds::Kind;
+use object_layout::words::{COUNT_BITS, KIND_MASK, TYPE_OVER_MIDDLE};
 use std::alloc::Global;
 
 // A failure with the label.

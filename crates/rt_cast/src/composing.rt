@@ -6,16 +6,18 @@ ghost use Rattle.rt_cast.specs.ComposeCodes.{compose_project, compose_inject, co
 ghost use Rattle.rt_cast.specs.ComposeCodes.{compose_middle, compose_third, compose_second, compose_first};
 ghost use Rattle.rt_cast.specs.Procs.{compose_proc};
 
-use crate::codes::{build, call, compute, either, load, put_header, tail_call};
+use crate::codes::put_header;
 use crate::numbers::{CastProc, MIDDLES};
 use crate::parts::pick;
-use crate::words::{COUNT_BITS, KIND_MASK, header, kind};
+use crate::words::{header, kind};
 use grift_base::lists::OutOfMemory;
 use low_ir::code::LowSource::{Number, Word};
 use low_ir::code::{LowCode, WordOp};
+use low_ir::codes::{build, call, compute, either, load, tail_call};
 use low_ir::programs::LowProc;
 use machine_words::conditions::Cond;
 use object_layout::kinds::Kind;
+use object_layout::words::{COUNT_BITS, KIND_MASK};
 use std::alloc::Global;
 
 // A projection first.

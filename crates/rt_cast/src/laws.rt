@@ -18,7 +18,7 @@ ghost use Rattle.coercion_norm.specs.Objects.{Object, words_of_all};
 ghost use Rattle.rt_cast.specs.Costs.{coerce_cost, compose_cost, cast_cost, tuple_cost, project_cost};
 ghost use Rattle.rt_cast.specs.Costs.{coerce_words, compose_words, cast_words};
 ghost use Rattle.rt_cast.specs.Costs.{coerce_price, compose_price, cast_price};
-ghost use Rattle.rt_cast.specs.Frames.{largest_frame};
+ghost use Rattle.low_ir.specs.Frames.{largest_frame};
 ghost use Rattle.rt_cast.specs.HeavyTurns.{has_heavy_turn};
 ghost use Rattle.rt_cast.specs.LightCasts.{is_light, light_words, light_price};
 ghost use Rattle.rt_cast.specs.Objects.{Holds, HoldsWords};

@@ -5,19 +5,21 @@ ghost use Rattle.machine_words.specs.declared.conditions.Cond.TheVariants.{Eq};
 ghost use Rattle.low_ir.specs.declared.code.LowSource.TheVariants.{Word};
 ghost use Rattle.low_ir.specs.Procedures.{TailCall};
 ghost use Rattle.low_ir.specs.Views.{code_of, proc_of};
-ghost use Rattle.rt_cast.specs.PartCodes.{proc, either, results, finish_code, part_step, parts_code};
+ghost use Rattle.rt_cast.specs.PartCodes.{results, finish_code, part_step, parts_code};
+ghost use Rattle.low_ir.specs.Codes.{proc, either};
 ghost use Rattle.rt_cast.specs.PartCodes.{middle_code, apart, part_turns, pick};
 ghost use Rattle.rt_cast.specs.Procs.{raise_proc, final_proc};
 
-use crate::codes::{build, call, compute, either, load, set, tail_call};
 use crate::numbers::MOST_PARTS;
-use crate::words::{COUNT_UNIT, HEIGHT_BITS, HEIGHT_MASK, KIND_MASK, kind};
+use crate::words::kind;
 use grift_base::lists::OutOfMemory;
 use low_ir::code::LowSource::{Number, Word};
 use low_ir::code::{LowCode, LowSource, WordOp};
+use low_ir::codes::{build, call, compute, either, load, set, tail_call};
 use low_ir::programs::LowProc;
 use machine_words::conditions::Cond;
 use object_layout::kinds::Kind;
+use object_layout::words::{COUNT_UNIT, HEIGHT_BITS, HEIGHT_MASK, KIND_MASK};
 use std::alloc::Global;
 
 /// The greater of a height and an object's, which stand in words 0 and 1.

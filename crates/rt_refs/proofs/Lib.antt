@@ -1,16 +1,6 @@
 pub mod Public
-mod Calling
-mod InTurn
-mod Applying
-mod CellSteps
-mod Finding
-mod Reading
-mod Writing
-mod Filling
-mod OverObjects
 mod Closing
 mod ArgumentWords
-mod Samples
 mod Walking
 mod Sums
 mod Doubling

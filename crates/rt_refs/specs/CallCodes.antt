@@ -1,11 +1,11 @@
 -- The code of apply: word 0 is a function with a proxy, words 1 to 6 are its arguments, word 7 is how many these are.
--- Which words objects have stands in `Words.antt` of rt_cast.
+-- Which words objects have stands in `Words.antt` of object_layout.
 use Rattle.std.specs.Prelude.{ℕ, zero, suc, ◌+◌, ◌*◌, List, [], ◌∷◌}
 use Rattle.machine_words.specs.declared.conditions.Cond.TheVariants.{Eq}
 use Rattle.low_ir.specs.declared.code.LowSource.{LowSource}
 use Rattle.low_ir.specs.declared.code.LowSource.TheVariants.{Word, Number}
 use Rattle.low_ir.specs.Procedures.{Code, Load, Call, CallAt, TailCall, Proc}
-use Rattle.rt_cast.specs.PartCodes.{proc, either}
+use Rattle.low_ir.specs.Codes.{proc, either}
 
 -- so many words of arguments, from one on
 abbrev pub argument_words : ℕ → ℕ → List LowSource

@@ -1,4 +1,3 @@
-pub mod TrapCodes
 pub mod Products
 pub mod Quotients
 pub mod Answering
@@ -7,6 +6,3 @@ pub mod CallCodes
 pub mod FillCodes
 pub mod RefProcs
 pub mod Arguments
-pub mod CallLaws
-pub mod CellLaws
-pub mod FillLaws

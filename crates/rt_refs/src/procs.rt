@@ -1,4 +1,4 @@
-// The procedures of product, quotient and remainder.
+// The procedures of product, quotient and remainder, and all procedures of this crate in order.
 
 ghost use Rattle.std.specs.Prelude.{◌≡◌, ◌+◌, ◌≤◌, ◌^◌, IfOk};
 ghost use Rattle.low_ir.specs.Views.{code_of, proc_of, procs_of};
@@ -10,16 +10,15 @@ ghost use Rattle.rt_refs.specs.RefProcs.{ref_procs};
 
 use crate::calls::apply_proc;
 use crate::cells::{read_proc, write_proc};
-use crate::codes::trap;
 use crate::fills::{fill_loop, fill_proc};
 use crate::numbers::RefProc;
 use grift_base::lists::OutOfMemory;
 use grift_base::verdicts::Trap;
 use low_ir::code::LowSource::{Number, Word};
 use low_ir::code::{LowCode, WordOp};
+use low_ir::codes::{choose, compute, set, tail_call, trap};
 use low_ir::programs::{LowProc, LowProcs};
 use machine_words::conditions::Cond;
-use rt_cast::codes::{choose, compute, set, tail_call};
 use std::alloc::Global;
 
 /// How many procedures `arithmetic_procs` gives.

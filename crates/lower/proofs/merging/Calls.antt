@@ -8,8 +8,8 @@ use Rattle.grift_base.specs.declared.places.Pos.{Pos}
 use Rattle.grift_base.specs.declared.verdicts.Verdict.TheVariants.{Blame}
 use Rattle.run_laws.specs.Runs.{Verdict as EndsWith}
 use Rattle.machine_words.specs.Halts.{ending_of}
-use Rattle.core_calc.specs.Account.{Measures}
-use Rattle.low_ir.specs.Run.{Setting, Waiting, LowState, with_local}
+use Rattle.core_calc.specs.Account.{StepKind, Measures}
+use Rattle.low_ir.specs.Run.{Setting, Waiting, LowState, with_local, entered}
 use Rattle.coercion_norm.specs.Coercions.{Coercion, rows_of}
 use Rattle.coercion_norm.specs.Held.{Layout, There, TypesStand}
 use Rattle.coercion_norm.specs.MergedMode.{merging, function_parts}
@@ -22,7 +22,9 @@ use Rattle.cast_modes.specs.ValueSteps.{CastFrame, EnterFrame, Own, Entering, Re
 use Rattle.cast_modes.specs.ValueSteps.{cast_all, casts_onto, apply, enter_plain, decision_wraps}
 use Rattle.flat_ir.specs.Bodies.{Proc}
 use Rattle.flat_ir.specs.Counts.{decision_at}
-use Rattle.flat_ir.specs.FlatTally.{Cost, Prices, act_cost, cast_cost, enter_cost, plain_cost, merged_prices, no_cost}
+use Rattle.flat_ir.specs.FlatTally.{act_cost, cast_cost, enter_cost, plain_cost}
+use Rattle.coer_core.specs.TurnPrices.{merged_prices}
+use Rattle.cast_modes.specs.Prices.{Cost, Prices, no_cost}
 use Rattle.flat_ir.specs.Machine.{FlatCode, FlatValue, FlatValues, FlatFrame, FlatFocus, FlatStore, FlatAfter, Group}
 use Rattle.flat_ir.specs.Machine.{Inside, locals_of, flat_turn, flat_arity, flat_entered, entered_proc, flat_cast}
 use Rattle.rt_cast.specs.Carried.{IsVery, Carries, BlamesAt}
@@ -31,14 +33,14 @@ use Rattle.rt_cast.specs.ComposeCodes.{cast as cast_number}
 use Rattle.rt_cast.specs.LightCasts.{cast_words_of, cast_price_of}
 use Rattle.rt_cast.specs.MergedValues.{Merged, Solid, Proxied, Outcome, Stuck, Gives, Blames, cast_value}
 use Rattle.rt_cast.specs.Procs.{Stand, how_many_cast_procs}
-use Rattle.rt_cast.specs.States.{Placed, IsReady, Grows, Fine, Heap, Filled as RtFilled, around, entered, heap_of}
+use Rattle.rt_cast.specs.States.{Placed, IsReady, Grows, Fine, Heap, Filled as RtFilled, around, heap_of}
 use Rattle.rt_refs.specs.Arguments.{handed}
 use Rattle.rt_refs.specs.CallCodes.{apply_proc}
-use Rattle.rt_refs.specs.CallLaws.{AtArgument, CastInTurn, Resumes, where_comes}
-use Rattle.rt_refs.specs.CallLaws.{CallsAt as RtCallsAt}
+use Rattle.lower.specs.CallLaws.{AtArgument, CastInTurn, Resumes, where_comes}
+use Rattle.lower.specs.CallLaws.{CallsAt as RtCallsAt}
 use Rattle.rt_refs.specs.declared.numbers.RefProc.TheVariants.{Apply}
 use Rattle.rt_refs.specs.RefProcs.{Stand as RefsStand, ref_place}
-use Rattle.rt_refs.proofs.Public.{calls_are_made, answers_are_cast}
+use Rattle.lower.proofs.references.OverObjects.{calls_are_made, answers_are_cast}
 use Rattle.lower.specs.declared.served.Served.{Served}
 use Rattle.lower.specs.CarriedValues.{CarriedIn, AreCarried}
 use Rattle.lower.specs.Keeping.{FitsMeasures}
@@ -81,7 +83,7 @@ module _ (setting : Setting) (l : Layout) (procs : List Proc) (casts : List Type
   rt_filled : RtFilled setting l objects (heap_of s)
   rt_filled = filled_of setting l procs casts m number objects (heap_of s) here.filled
 
-  abbrev prices : Prices Coercion
+  abbrev prices : Prices StepKind Coercion
   prices = merged_prices l.types (merging l.types casts) m
 
   abbrev acting : Cost

@@ -8,7 +8,7 @@ use Rattle.run_laws.proofs.Public.{reaches_weaken}
 use Rattle.machine_words.specs.Halts.{ending_of}
 use Rattle.core_calc.specs.Account.{Measures}
 use Rattle.low_ir.specs.Prices.{CostsAtMost}
-use Rattle.low_ir.specs.Run.{Setting, LowState, low_machine}
+use Rattle.low_ir.specs.Run.{Setting, LowState, low_machine, entered}
 use Rattle.coercion_norm.specs.Coercions.{Coercion}
 use Rattle.coercion_norm.specs.CoercionTables.{cast_of}
 use Rattle.coercion_norm.specs.MergedMode.{merging}
@@ -18,7 +18,8 @@ use Rattle.coercion_norm.specs.Held.{Layout, Held, TypesStand, rows_in}
 use Rattle.coercion_norm.specs.Objects.{Object}
 use Rattle.flat_ir.specs.Bodies.{Proc}
 use Rattle.flat_ir.specs.Counts.{decision_at}
-use Rattle.flat_ir.specs.FlatTally.{cast_cost, merged_prices}
+use Rattle.flat_ir.specs.FlatTally.{cast_cost}
+use Rattle.coer_core.specs.TurnPrices.{merged_prices}
 use Rattle.flat_ir.specs.Machine.{FlatValue, FlatFrame, FlatStore, flat_cast}
 use Rattle.rt_cast.specs.ComposeCodes.{cast as cast_number}
 use Rattle.rt_cast.specs.Carried.{IsLow, IsVery, Carries, ComesTo}
@@ -26,7 +27,7 @@ use Rattle.rt_cast.specs.Costs.{cast_words, cast_price}
 use Rattle.rt_cast.specs.LightCasts.{is_light, light_words, light_price, cast_words_of, cast_price_of}
 use Rattle.rt_cast.specs.MergedValues.{Merged, Outcome, Stuck, cast_value}
 use Rattle.rt_cast.specs.Procs.{Stand, cast_proc}
-use Rattle.rt_cast.specs.States.{Placed, IsReady, Filled as RtFilled, OnTheWay, Within, entered, heap_of}
+use Rattle.rt_cast.specs.States.{Placed, IsReady, Filled as RtFilled, OnTheWay, Within, heap_of}
 use Rattle.rt_cast.proofs.Public.{casts_are_made, light_casts_are_cheap}
 use Rattle.lower.specs.declared.served.Served.{Served}
 use Rattle.lower.specs.CarriedValues.{CarriedIn}

@@ -20,7 +20,9 @@ use Rattle.coercion_norm.specs.Held.{Layout}
 use Rattle.coercion_norm.specs.Objects.{Object}
 use Rattle.flat_ir.specs.Bodies.{Proc}
 use Rattle.flat_ir.specs.Counts.{decision_at}
-use Rattle.flat_ir.specs.FlatTally.{Cost, act_cost, cast_cost, merged_prices}
+use Rattle.flat_ir.specs.FlatTally.{act_cost, cast_cost}
+use Rattle.coer_core.specs.TurnPrices.{merged_prices}
+use Rattle.cast_modes.specs.Prices.{Cost}
 use Rattle.flat_ir.specs.Machine.{FlatValue, FlatFrame, FlatStore, FlatAfter, flat_cast, flat_proj}
 use Rattle.rt_cast.specs.Carried.{IsVery, Carries, GivesAt, ComesTo}
 use Rattle.rt_cast.specs.MergedValues.{Merged, Outcome, Stuck, Gives, Blames, cast_value, then_outcome}

@@ -12,7 +12,7 @@ use Rattle.run_laws.specs.Machines.{Reaches}
 use Rattle.machine_words.specs.Halts.{ending_of}
 use Rattle.core_calc.specs.Account.{Measures}
 use Rattle.low_ir.specs.Prices.{CostsAtMost}
-use Rattle.low_ir.specs.Run.{Setting, LowState, low_machine}
+use Rattle.low_ir.specs.Run.{Setting, LowState, low_machine, entered}
 use Rattle.coercion_norm.specs.Coercions.{Coercion, Id, Fail, Middle, Inject, Project, rows_of, kind_of, slots_of}
 use Rattle.coercion_norm.specs.declared.middles.MiddleKind.TheVariants.{Fun, Tup, Ref, Vec}
 use Rattle.coercion_norm.specs.Normal.{IsNormal}
@@ -27,7 +27,9 @@ use Rattle.coercion_norm.specs.Objects.{Object}
 use Rattle.coercion_norm.proofs.Public.{coerce_normal}
 use Rattle.coer_core.specs.MergedTally.{Opens}
 use Rattle.flat_ir.specs.Bodies.{Proc}
-use Rattle.flat_ir.specs.FlatTally.{Cost, act_cost, merged_prices, effort_cost}
+use Rattle.flat_ir.specs.FlatTally.{act_cost}
+use Rattle.coer_core.specs.TurnPrices.{merged_prices, effort_cost}
+use Rattle.cast_modes.specs.Prices.{Cost}
 use Rattle.flat_ir.specs.Machine.{FlatValue, FlatFrame, FlatStore, FlatAfter, flat_arity, flat_entered, flat_proj}
 use Rattle.rt_cast.specs.ComposeCodes.{project as project_number}
 use Rattle.rt_cast.specs.Carried.{IsVery, Carries, ComesTo}
@@ -37,7 +39,7 @@ use Rattle.rt_cast.specs.MergedValues.{then_outcome}
 use Rattle.rt_cast.specs.PartCosts.{tuple_part_words, tuple_part_price, of_part, of_cast}
 use Rattle.rt_cast.specs.PartValues.{part_value, dyn_part_value, dyn_part_by, with_some}
 use Rattle.rt_cast.specs.Procs.{Stand, project_proc}
-use Rattle.rt_cast.specs.States.{Placed, IsReady, Filled as RtFilled, OnTheWay, Within, entered, heap_of}
+use Rattle.rt_cast.specs.States.{Placed, IsReady, Filled as RtFilled, OnTheWay, Within, heap_of}
 use Rattle.rt_cast.proofs.Public.{parts_of_tuples_are_answered, parts_in_dyn_are_answered}
 use Rattle.lower.specs.declared.served.Served.{Served}
 use Rattle.lower.specs.CarriedValues.{CarriedIn}

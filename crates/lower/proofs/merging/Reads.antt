@@ -9,7 +9,7 @@ use Rattle.grift_base.specs.declared.operators.PrimOp.TheVariants.{Unbox, Vector
 use Rattle.grift_base.specs.declared.verdicts.Trap.TheVariants.{Index}
 use Rattle.machine_words.specs.Halts.{ending_of}
 use Rattle.core_calc.specs.Account.{Measures}
-use Rattle.low_ir.specs.Run.{Setting, LowState}
+use Rattle.low_ir.specs.Run.{Setting, LowState, entered}
 use Rattle.coercion_norm.specs.Coercions.{Coercion, Id, rows_of}
 use Rattle.cast_modes.specs.Modes.{TypeCast}
 use Rattle.coercion_norm.specs.Normal.{IsNormal}
@@ -22,18 +22,20 @@ use Rattle.coercion_norm.specs.Objects.{Object}
 use Rattle.coercion_norm.specs.Held.{Layout, TypesStand}
 use Rattle.flat_ir.specs.Bodies.{Proc}
 use Rattle.flat_ir.specs.Counts.{flat_turn_wraps}
-use Rattle.flat_ir.specs.FlatTally.{Cost, act_cost, flat_cost, merged_prices}
+use Rattle.flat_ir.specs.FlatTally.{act_cost, flat_cost}
+use Rattle.coer_core.specs.TurnPrices.{merged_prices}
+use Rattle.cast_modes.specs.Prices.{Cost}
 use Rattle.flat_ir.specs.Machine.{FlatValue, FlatFrame, FlatFocus, FlatStore, FlatAfter, flat_operate, flat_turn}
 use Rattle.flat_ir.specs.Machine.{flat_arity, flat_entered}
 use Rattle.rt_cast.specs.ComposeCodes.{cast}
 use Rattle.rt_cast.specs.LightCasts.{cast_words_of, cast_price_of}
 use Rattle.rt_cast.specs.Procs.{Stand}
-use Rattle.rt_cast.specs.States.{Placed, IsReady, Filled as RtFilled, entered, heap_of}
+use Rattle.rt_cast.specs.States.{Placed, IsReady, Filled as RtFilled, heap_of}
 use Rattle.rt_cast.specs.Carried.{Carries}
 use Rattle.rt_cast.specs.MergedValues.{Merged, Solid, Proxied, Outcome, Gives, cast_value}
 use Rattle.rt_refs.specs.CellCodes.{read_proc}
-use Rattle.rt_refs.specs.CellLaws.{TellsAt, cell_behind, under}
-use Rattle.rt_refs.proofs.Public.{elements_are_read, indices_outside_trap, lengths_are_told}
+use Rattle.lower.specs.CellLaws.{TellsAt, cell_behind, under}
+use Rattle.lower.proofs.references.OverObjects.{elements_are_read, indices_outside_trap, lengths_are_told}
 use Rattle.lower.specs.declared.served.Served.{Served}
 use Rattle.lower.specs.Keeping.{FitsMeasures}
 use Rattle.lower.specs.MergedMeaning.{merged_meaning}
@@ -161,7 +163,7 @@ module _ (setting : Setting) (l : Layout) (procs : List Proc) (casts : List Type
         short setting l procs casts m places objects placed s.memory store here.cells is_vector cell values in_store a c
         s.alloc here.filled.ends here.filled.fits
 
-    stands_here : Rattle.rt_refs.specs.CellLaws.CellStands l objects s.memory a cell_words
+    stands_here : Rattle.lower.specs.CellLaws.CellStands l objects s.memory a cell_words
     stands_here =
         stands setting l procs casts m places objects placed s.memory store here.cells is_vector cell values in_store a
         c

@@ -20,7 +20,8 @@ use Rattle.cast_modes.specs.Modes.{TypeCast}
 use Rattle.flat_ir.specs.Bodies.{Proc}
 use Rattle.flat_ir.specs.Closed.{is_closed}
 use Rattle.flat_ir.specs.Counts.{flat_run_in}
-use Rattle.flat_ir.specs.FlatTally.{flat_tally_in, merged_prices}
+use Rattle.flat_ir.specs.FlatTally.{flat_tally_in}
+use Rattle.coer_core.specs.TurnPrices.{merged_prices}
 use Rattle.flat_ir.specs.Machine.{first_world}
 use Rattle.rt_cast.proofs.Public.{objects_fill_the_region}
 use Rattle.lower.specs.CastWays.{cast_ways}

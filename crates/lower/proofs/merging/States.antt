@@ -8,7 +8,7 @@ use Rattle.grift_base.specs.declared.verdicts.Verdict.TheVariants.{Trap as TrapV
 use Rattle.run_laws.specs.Runs.{Verdict as EndsWith}
 use Rattle.machine_words.specs.Halts.{ending_of}
 use Rattle.core_calc.specs.Account.{Measures}
-use Rattle.low_ir.specs.Run.{Setting, LowState}
+use Rattle.low_ir.specs.Run.{Setting, LowState, code_step, goes_on}
 use Rattle.object_layout.specs.declared.kinds.Kind.TheVariants.{Boxed, Vector}
 use Rattle.object_layout.specs.Kinds.{kind_number}
 use Rattle.coercion_norm.specs.Coercions.{Coercion}
@@ -21,7 +21,7 @@ use Rattle.coercion_norm.proofs.Public.{found_within}
 use Rattle.flat_ir.specs.Bodies.{Proc}
 use Rattle.flat_ir.specs.Machine.{FlatValue, FlatStore}
 use Rattle.rt_cast.specs.States.{Heap, Placed, Filled as RtFilled, heap_of}
-use Rattle.rt_refs.specs.CellLaws.{TrapsAt, CellStands, CellInRegion}
+use Rattle.lower.specs.CellLaws.{TrapsAt, CellStands, CellInRegion}
 use Rattle.lower.specs.MergedMeaning.{merged_meaning}
 use Rattle.lower.specs.Storage.{Filled}
 use Rattle.lower.specs.CarriedValues.{CarriedIn, AreCarried, CellHeld}
@@ -34,7 +34,6 @@ use Rattle.grift_base.specs.EnvironmentCall.{environment_call}
 use Rattle.grift_base.specs.declared.places.Pos.{Pos}
 use Rattle.grift_base.specs.declared.verdicts.Verdict.TheVariants.{Blame}
 use Rattle.grift_base.specs.declared.worlds.EnvEffect.TheVariants.{Blamed, Refused}
-use Rattle.low_ir.specs.Run.{code_step, goes_on}
 use Rattle.rt_cast.specs.Carried.{IsVery, BlamesAt}
 
 -- the environment call of a blame

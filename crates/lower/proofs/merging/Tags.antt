@@ -24,7 +24,9 @@ use Rattle.coercion_norm.specs.Objects.{Object, Fixed}
 use Rattle.flat_ir.specs.Bodies.{Proc}
 use Rattle.coer_core.specs.MergedTally.{effort}
 use Rattle.flat_ir.specs.Counts.{decision_at, flat_turn_wraps}
-use Rattle.flat_ir.specs.FlatTally.{Cost, cast_cost, effort_cost, merged_prices}
+use Rattle.flat_ir.specs.FlatTally.{cast_cost}
+use Rattle.coer_core.specs.TurnPrices.{effort_cost, merged_prices}
+use Rattle.cast_modes.specs.Prices.{Cost}
 use Rattle.flat_ir.specs.Machine.{FlatValue, FlatFrame, FlatStore, flat_cast, flat_turn, flat_arity, flat_entered}
 use Rattle.rt_cast.specs.Carried.{IsLow}
 use Rattle.rt_cast.specs.DynWords.{IsDyn, IsDynBy, behind_tag, small_dyn}

@@ -60,7 +60,9 @@ use Rattle.coercion_norm.specs.MergedMode.{proxied}
 use Rattle.cast_modes.specs.Modes.{Shape, Bare, Injected}
 use Rattle.coer_core.specs.MergedTally.{Effort, Heavy, Injects, Splits, Keeps, effort, effort_asks, effort_budget}
 use Rattle.coer_core.specs.MergedTally.{half_charge, opening_of_kind}
-use Rattle.flat_ir.specs.FlatTally.{Cost, act_cost, cast_cost, merged_prices, effort_cost}
+use Rattle.flat_ir.specs.FlatTally.{act_cost, cast_cost}
+use Rattle.coer_core.specs.TurnPrices.{merged_prices, effort_cost}
+use Rattle.cast_modes.specs.Prices.{Cost}
 use Rattle.flat_ir.specs.Machine.{FlatFocus}
 use Rattle.rt_cast.specs.LightCasts.{ends_simply, has_none, is_light}
 use Rattle.lower.proofs.merging.Bounds.{Fits, nothing_fits, opening_asks, opening_budget}

@@ -15,7 +15,7 @@ use Rattle.machine_words.specs.Memory.{Memory, store_bytes}
 use Rattle.machine_words.specs.Halts.{ending_of}
 use Rattle.core_calc.specs.Account.{Measures}
 use Rattle.low_ir.specs.Prices.{CostsAtMost}
-use Rattle.low_ir.specs.Run.{Setting, LowState, low_machine}
+use Rattle.low_ir.specs.Run.{Setting, LowState, low_machine, entered}
 use Rattle.coercion_norm.specs.Coercions.{Coercion, Id, Fail, Middle, Inject, Project, rows_of}
 use Rattle.coercion_norm.specs.declared.middles.MiddleKind.TheVariants.{Fun, Tup, Ref, Vec}
 use Rattle.cast_modes.specs.Modes.{TypeCast}
@@ -31,19 +31,21 @@ use Rattle.coercion_norm.specs.ObjectsOfRows.{header}
 use Rattle.coercion_norm.specs.Held.{Layout, TypesStand, There}
 use Rattle.coercion_norm.proofs.Public.{object_kept, found_within}
 use Rattle.flat_ir.specs.Bodies.{Proc}
-use Rattle.flat_ir.specs.FlatTally.{Cost, act_cost, merged_prices}
+use Rattle.flat_ir.specs.FlatTally.{act_cost}
+use Rattle.coer_core.specs.TurnPrices.{merged_prices}
+use Rattle.cast_modes.specs.Prices.{Cost}
 use Rattle.flat_ir.specs.Machine.{FlatValue, FlatFrame, FlatStore, FlatAfter, flat_operate, flat_arity, flat_entered}
 use Rattle.rt_cast.specs.ComposeCodes.{cast}
 use Rattle.rt_cast.specs.LightCasts.{cast_words_of, cast_price_of}
 use Rattle.rt_cast.specs.Objects.{HoldsWords}
 use Rattle.rt_cast.specs.Procs.{Stand}
-use Rattle.rt_cast.specs.States.{Placed, IsReady, Filled as RtFilled, Within, entered, heap_of}
+use Rattle.rt_cast.specs.States.{Placed, IsReady, Filled as RtFilled, Within, heap_of}
 use Rattle.rt_cast.specs.Carried.{IsVery, Carries}
 use Rattle.rt_cast.specs.MergedValues.{Merged, Base, Solid, Proxied, InDyn, Outcome, Stuck, Gives, Blames, cast_value}
 use Rattle.rt_cast.specs.MergedValues.{then_outcome}
 use Rattle.rt_refs.specs.CellCodes.{write_proc}
-use Rattle.rt_refs.specs.CellLaws.{WroteAt, WriteComes, OnTheWayWriting, cell_behind, under}
-use Rattle.rt_refs.proofs.Public.{elements_are_written, box_writes_are_blamed, writes_outside_trap}
+use Rattle.lower.specs.CellLaws.{WroteAt, WriteComes, OnTheWayWriting, cell_behind, under}
+use Rattle.lower.proofs.references.OverObjects.{elements_are_written, box_writes_are_blamed, writes_outside_trap}
 use Rattle.lower.specs.declared.served.Served.{Served}
 use Rattle.lower.specs.MergedMeaning.{merged_meaning, WrapsKind}
 use Rattle.lower.specs.Storage.{Filled}
@@ -236,12 +238,12 @@ module _ (setting : Setting) (l : Layout) (procs : List Proc) (casts : List Type
         s.alloc
         here.filled.ends here.filled.fits
 
-    stands_here : Rattle.rt_refs.specs.CellLaws.CellStands l objects s.memory a cell_words
+    stands_here : Rattle.lower.specs.CellLaws.CellStands l objects s.memory a cell_words
     stands_here =
         stands setting l procs casts m places objects placed s.memory store here.cells is_vector cell values in_store a
         c
 
-    region_here : Rattle.rt_refs.specs.CellLaws.CellInRegion l objects s.memory a cell_words
+    region_here : Rattle.lower.specs.CellLaws.CellInRegion l objects s.memory a cell_words
     region_here =
         in_region setting l procs casts m places objects placed s.memory store here.cells is_vector cell values in_store
         a c

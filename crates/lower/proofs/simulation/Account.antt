@@ -23,6 +23,7 @@ use Rattle.machine_words.specs.Memory.{Memory}
 use Rattle.low_ir.specs.Prices.{entering_some, low_price, CostsAtMost}
 use Rattle.low_ir.specs.Procedures.{Proc as LowProc}
 use Rattle.low_ir.specs.Run.{Setting, LowState, LowShown, low_machine, low_start, held_by}
+use Rattle.core_calc.specs.Account.{StepKind}
 use Rattle.cast_modes.specs.Modes.{Mode}
 use Rattle.cast_modes.specs.AnswerTypes.{Told}
 use Rattle.cast_modes.specs.RunValues.{RunUnit}
@@ -34,13 +35,13 @@ use Rattle.core_calc.specs.Redex.{where_some}
 use Rattle.flat_ir.specs.Bodies.{Proc}
 use Rattle.flat_ir.specs.Closed.{takes_nothing}
 use Rattle.flat_ir.specs.Counts.{flat_counting, flat_run_in, flat_words_of_turn, flat_wraps_of_turn}
-use Rattle.flat_ir.specs.FlatTally.{Prices, FlatTally, FlatTallied, flat_tallying, flat_untallied, flat_tally_in}
-use Rattle.flat_ir.specs.FlatTally.{flat_atoms}
+use Rattle.flat_ir.specs.FlatTally.{FlatTally, FlatTallied, flat_tallying, flat_untallied, flat_tally_in, flat_atoms}
+use Rattle.cast_modes.specs.Prices.{Prices}
 use Rattle.flat_ir.specs.Levels.{levels}
 use Rattle.flat_ir.specs.Machine.{FlatState, FlatAfter, FlatFocus, FlatFrame, Inside, flat_start}
 use Rattle.flat_ir.specs.Machine.{first_world, flat_running, flat_state_at, answer_at, blame_ending}
 use Rattle.flat_ir.specs.Machine.{entry_body, new_group}
-use Rattle.rt_cast.specs.Frames.{frame_room, waiting_room, stack_room}
+use Rattle.low_ir.specs.Frames.{frame_room, waiting_room, stack_room}
 use Rattle.rt_cast.specs.Objects.{Holds}
 use Rattle.lower.specs.Keeping.{KeepsFlat, PaysFlat}
 use Rattle.lower.specs.Lowered.{low_proc, entry_proc, show_by}
@@ -162,7 +163,7 @@ module _ (setting : Setting) where
 
 -- ---- what runs with an account and with counts are alike in
 
-module _ {C : Type 0} (procs : List Proc) (mode : Mode C) (prices : Prices C) (told : Told) where
+module _ {C : Type 0} (procs : List Proc) (mode : Mode C) (prices : Prices StepKind C) (told : Told) where
   abbrev Plainly : Reduction (FlatState C) (FlatState C) Verdict
   Plainly = flat_running procs mode told
 

@@ -7,7 +7,7 @@ use Rattle.low_ir.specs.declared.code.LowSource.{LowSource}
 use Rattle.low_ir.specs.declared.code.LowSource.TheVariants.{Word}
 use Rattle.low_ir.specs.Procedures.{Code, Done, Load, TailCall, TailCallAt, CallAt, Call as CallOf}
 use Rattle.low_ir.specs.Steps.{Locals}
-use Rattle.low_ir.specs.Run.{Waiting as LowWaiting, LowState, word_of, words_of, and_more}
+use Rattle.low_ir.specs.Run.{Waiting as LowWaiting, LowState, word_of, words_of, and_more, entered}
 use Rattle.cast_modes.specs.RunValues.{RunWrap, Pending, plain, all_plain, in_row}
 use Rattle.cast_modes.specs.ValueSteps.{Entering, onto, pendings_onto}
 use Rattle.coercion_norm.specs.Held.{TypesStand}
@@ -21,8 +21,8 @@ use Rattle.flat_ir.specs.Machine.{FlatCode, FlatValue, FlatAfter, FlatState, Gro
 use Rattle.flat_ir.specs.Machine.{value, values, flat_turn}
 use Rattle.flat_ir.specs.Machine.{Locals as FlatLocals}
 use Rattle.lower.specs.declared.numbering.Shape.{Shape}
-use Rattle.rt_cast.specs.Frames.{frame_room, waiting_room}
-use Rattle.rt_cast.specs.States.{Heap, entered}
+use Rattle.low_ir.specs.Frames.{frame_room, waiting_room}
+use Rattle.rt_cast.specs.States.{Heap}
 use Rattle.lower.specs.Storage.{Filled}
 use Rattle.lower.specs.Numbering.{operand_word, test_word}
 use Rattle.lower.specs.Emit.{Then, ToCaller, Into, emit, call, call_by, is_sibling, found, found_all, apply_words}

@@ -17,7 +17,7 @@ use Rattle.flat_ir.specs.Machine.{set_local as set_flat}
 use Rattle.flat_ir.specs.Levels.{levels}
 use Rattle.coercion_norm.specs.Held.{TypesStand}
 use Rattle.coercion_norm.specs.Objects.{Object}
-use Rattle.rt_cast.specs.Frames.{frame_room, waiting_room}
+use Rattle.low_ir.specs.Frames.{frame_room, waiting_room}
 use Rattle.rt_cast.specs.States.{Heap}
 use Rattle.lower.specs.Storage.{Filled}
 use Rattle.lower.specs.declared.numbering.Shape.{Shape}

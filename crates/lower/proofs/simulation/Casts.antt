@@ -11,7 +11,7 @@ use Rattle.low_ir.specs.declared.code.LowSource.{LowSource}
 use Rattle.low_ir.specs.declared.code.LowSource.TheVariants.{Word, Number}
 use Rattle.low_ir.specs.Procedures.{Code, Compute, Done, If}
 use Rattle.low_ir.specs.Steps.{Locals, set_local}
-use Rattle.low_ir.specs.Run.{Waiting as LowWaiting, LowState, word_of, words_of}
+use Rattle.low_ir.specs.Run.{Waiting as LowWaiting, LowState, word_of, words_of, entered}
 use Rattle.cast_modes.specs.ValueSteps.{on_some, decision_wraps}
 use Rattle.coercion_norm.specs.Held.{TypesStand}
 use Rattle.coercion_norm.specs.Objects.{Object}
@@ -25,7 +25,7 @@ use Rattle.lower.specs.declared.numbering.Shape.{Shape}
 use Rattle.lower.specs.declared.served.Tag.{Tag}
 use Rattle.lower.specs.declared.served.CastWay.{CastWay}
 use Rattle.lower.specs.declared.served.CastWay.TheVariants.{Called, IntoDyn, OutOfDyn}
-use Rattle.rt_cast.specs.States.{Heap, entered}
+use Rattle.rt_cast.specs.States.{Heap}
 use Rattle.lower.specs.Storage.{Filled}
 use Rattle.lower.specs.Numbering.{operand_word, test_word}
 use Rattle.lower.specs.CastWays.{tag_number, way_at, in_place}

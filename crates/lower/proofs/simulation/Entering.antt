@@ -17,7 +17,7 @@ use Rattle.flat_ir.specs.Machine.{FlatCode, FlatValue, FlatValues, FlatFrame, Fl
 use Rattle.flat_ir.specs.Machine.{Inside}
 use Rattle.flat_ir.specs.Machine.{locals_of, flat_state_at}
 use Rattle.flat_ir.specs.Levels.{levels}
-use Rattle.rt_cast.specs.Frames.{stack_room}
+use Rattle.low_ir.specs.Frames.{stack_room}
 use Rattle.rt_cast.specs.States.{heap_of}
 use Rattle.lower.specs.Lowered.{low_proc}
 use Rattle.lower.specs.SchemeLaws.{Calls, CallsAt, call_leaves}

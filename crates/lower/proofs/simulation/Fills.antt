@@ -13,7 +13,7 @@ use Rattle.object_layout.specs.declared.kinds.Kind.TheVariants.{Vector}
 use Rattle.low_ir.specs.declared.code.LowSource.TheVariants.{Word}
 use Rattle.low_ir.specs.Procedures.{Code, Done, Return as ReturnCode}
 use Rattle.low_ir.specs.Steps.{Locals}
-use Rattle.low_ir.specs.Run.{Setting, Waiting, LowState, goes_on}
+use Rattle.low_ir.specs.Run.{Setting, Waiting, LowState, goes_on, entered}
 use Rattle.cast_modes.specs.Modes.{TypeCast}
 use Rattle.cast_modes.specs.RunValues.{RunInt, RunBool, RunUnit, RunFun, RunTuple, RunLoc, RunWrap, RunInject}
 use Rattle.cast_modes.specs.RunValues.{in_row}
@@ -22,13 +22,14 @@ use Rattle.coercion_norm.specs.Objects.{Object, Fixed, Cell, bytes_of_all, objec
 use Rattle.coercion_norm.specs.Held.{Layout}
 use Rattle.coercion_norm.proofs.Public.{last_stands}
 use Rattle.flat_ir.specs.Bodies.{Proc}
-use Rattle.flat_ir.specs.FlatTally.{Cost, operator_cost}
+use Rattle.flat_ir.specs.FlatTally.{operator_cost}
+use Rattle.cast_modes.specs.Prices.{Cost}
 use Rattle.flat_ir.specs.Machine.{FlatValue, FlatFrame, FlatStore, FlatAfter, flat_operate}
-use Rattle.rt_cast.specs.Frames.{stack_room, frame_room, waiting_room}
+use Rattle.low_ir.specs.Frames.{stack_room, frame_room, waiting_room}
 use Rattle.rt_cast.specs.Objects.{HasWord, HoldsWords}
-use Rattle.rt_cast.specs.States.{Placed, around, st, entered, heap_of}
+use Rattle.rt_cast.specs.States.{Placed, around, st, heap_of}
 use Rattle.rt_refs.specs.FillCodes.{fill_loop, fill_proc, trap_length}
-use Rattle.rt_refs.proofs.Public.{vectors_are_filled, lengths_below_zero_go_on}
+use Rattle.lower.proofs.references.Filling.{vectors_are_filled, lengths_below_zero_go_on}
 use Rattle.lower.specs.declared.served.Served.{Served}
 use Rattle.lower.specs.Meanings.{Meaning, MeaningLaws}
 use Rattle.lower.specs.CarriedValues.{AreCarried}

@@ -13,7 +13,7 @@ use Rattle.run_laws.proofs.Public.{machine_never_wrong, reduction_and_machine_fo
 use Rattle.machine_words.specs.Halts.{ending_of}
 use Rattle.machine_words.specs.Memory.{Memory}
 use Rattle.low_ir.specs.Procedures.{Code}
-use Rattle.low_ir.specs.Run.{LowState, LowShown, low_machine, low_start}
+use Rattle.low_ir.specs.Run.{LowState, LowShown, low_machine, low_start, Waiting as LowWaiting}
 use Rattle.cast_modes.specs.ValueSteps.{Own, Return, Entering}
 use Rattle.flat_ir.specs.Bodies.{Proc}
 use Rattle.flat_ir.specs.Closed.{takes_nothing}
@@ -21,7 +21,6 @@ use Rattle.flat_ir.specs.Counts.{flat_counting, flat_run_in}
 use Rattle.flat_ir.specs.Machine.{FlatFocus, FlatFrame, FlatStore, FlatState, Inside, flat_start, first_world}
 use Rattle.flat_ir.specs.Machine.{flat_turn, flat_state_at, entry_body, new_group}
 use Rattle.low_ir.specs.Steps.{Locals}
-use Rattle.low_ir.specs.Run.{Waiting as LowWaiting}
 use Rattle.cast_modes.specs.RunValues.{RunUnit}
 use Rattle.cast_modes.specs.Counting.{Counted, Counts, uncounted}
 use Rattle.lower.specs.CarriedValues.{CellsHeld}
@@ -29,7 +28,7 @@ use Rattle.lower.proofs.simulation.ShownAnswers.{true_false}
 use Rattle.coercion_norm.specs.Held.{TypesStand}
 use Rattle.coercion_norm.specs.Objects.{Object}
 use Rattle.rt_cast.specs.Objects.{Holds}
-use Rattle.rt_cast.specs.Frames.{stack_room}
+use Rattle.low_ir.specs.Frames.{stack_room}
 use Rattle.rt_cast.specs.States.{Heap, heap_of}
 use Rattle.lower.specs.Storage.{Filled}
 use Rattle.lower.specs.Lowered.{entry_proc}

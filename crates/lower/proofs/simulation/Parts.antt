@@ -8,7 +8,7 @@ use Rattle.low_ir.specs.declared.code.LowSource.{LowSource}
 use Rattle.low_ir.specs.declared.code.LowSource.TheVariants.{Number}
 use Rattle.low_ir.specs.Procedures.{Code, Done, Load, Call}
 use Rattle.low_ir.specs.Steps.{Locals}
-use Rattle.low_ir.specs.Run.{Waiting as LowWaiting, LowState, word_of, words_of, and_more}
+use Rattle.low_ir.specs.Run.{Waiting as LowWaiting, LowState, word_of, words_of, and_more, entered}
 use Rattle.cast_modes.specs.RunValues.{RunWrap, in_row}
 use Rattle.cast_modes.specs.ValueSteps.{run_proj_dyn}
 use Rattle.coercion_norm.specs.Held.{TypesStand}
@@ -21,7 +21,7 @@ use Rattle.flat_ir.specs.Machine.{FlatValue, FlatAfter, FlatState, Group, value,
 use Rattle.flat_ir.specs.Machine.{flat_entered}
 use Rattle.flat_ir.specs.Machine.{Locals as FlatLocals}
 use Rattle.lower.specs.declared.numbering.Shape.{Shape}
-use Rattle.rt_cast.specs.States.{Heap, entered}
+use Rattle.rt_cast.specs.States.{Heap}
 use Rattle.lower.specs.Storage.{Filled}
 use Rattle.lower.specs.Numbering.{operand_word, test_word}
 use Rattle.lower.specs.Emit.{Then, perform, part, found, fetch_all, found_all, of_kind}

@@ -13,7 +13,7 @@ use Rattle.coercion_norm.specs.Objects.{Object}
 use Rattle.flat_ir.specs.Counts.{decision_at}
 use Rattle.flat_ir.specs.Machine.{FlatValue, FlatFrame, FlatFocus, FlatAfter, FlatState, FlatStore, flat_cast}
 use Rattle.flat_ir.specs.Machine.{flat_state_at}
-use Rattle.rt_cast.specs.Frames.{frame_room, waiting_room, stack_room}
+use Rattle.low_ir.specs.Frames.{frame_room, waiting_room, stack_room}
 use Rattle.rt_cast.specs.States.{Heap, heap_of}
 use Rattle.lower.specs.Storage.{Filled}
 use Rattle.lower.specs.CarriedValues.{CellsHeld}

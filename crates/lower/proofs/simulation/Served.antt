@@ -18,7 +18,7 @@ use Rattle.flat_ir.specs.Counts.{flat_turn_wraps}
 use Rattle.flat_ir.specs.Machine.{FlatFrame, FlatFocus, FlatAfter, FlatState, FlatStore, flat_state_at}
 use Rattle.flat_ir.specs.Machine.{flat_turn, blame_ending, answer_at}
 use Rattle.coercion_norm.specs.Objects.{Object}
-use Rattle.rt_cast.specs.Frames.{stack_room}
+use Rattle.low_ir.specs.Frames.{stack_room}
 use Rattle.rt_cast.specs.States.{heap_of}
 use Rattle.lower.specs.Storage.{Filled}
 use Rattle.lower.specs.SchemeLaws.{Aim, OnWay, StopsNow, Walks, After, Goes, IsPending}
@@ -26,7 +26,7 @@ use Rattle.lower.proofs.words.Credits.{By, by_then_step}
 use Rattle.lower.proofs.words.Stops.{stops_cheaply}
 use Rattle.low_ir.specs.Prices.{CostsAtMost}
 use Rattle.machine_words.specs.Halts.{ending_of}
-use Rattle.flat_ir.specs.FlatTally.{Cost}
+use Rattle.cast_modes.specs.Prices.{Cost}
 use Rattle.lower.proofs.simulation.Way.{Program, after_wraps, mode_of, N, Seen, Over, Settled}
 use Rattle.lower.proofs.simulation.Way.{wrong_over, stopped_over}
 use Rattle.lower.proofs.simulation.Way.{next_state, turn_of, size_of, over_price, zero_once_ended, dues, asks_of}

@@ -8,15 +8,15 @@ use Rattle.machine_words.specs.Halts.{ending_of}
 use Rattle.low_ir.specs.declared.code.LowSource.{LowSource}
 use Rattle.low_ir.specs.Procedures.{Code, Call, Proc as LowProc}
 use Rattle.low_ir.specs.Steps.{Locals, set_local}
-use Rattle.low_ir.specs.Run.{Waiting as LowWaiting, LowState, words_of, code_step}
+use Rattle.low_ir.specs.Run.{Waiting as LowWaiting, LowState, words_of, code_step, entered}
 use Rattle.cast_modes.specs.ValueSteps.{Own, Return, Entering}
 use Rattle.coercion_norm.specs.Held.{TypesStand}
 use Rattle.coercion_norm.specs.Objects.{Object}
 use Rattle.flat_ir.specs.Machine.{FlatValue, FlatFrame, FlatFocus, FlatAfter, FlatState, FlatStore, Group}
 use Rattle.flat_ir.specs.Machine.{flat_state_at}
 use Rattle.lower.specs.declared.numbering.Shape.{Shape}
-use Rattle.rt_cast.specs.Frames.{frame_room, waiting_room, stack_room}
-use Rattle.rt_cast.specs.States.{Heap, heap_of, entered}
+use Rattle.low_ir.specs.Frames.{frame_room, waiting_room, stack_room}
+use Rattle.rt_cast.specs.States.{Heap, heap_of}
 use Rattle.lower.specs.Storage.{Filled}
 use Rattle.lower.specs.Emit.{Then}
 use Rattle.lower.specs.CarriedValues.{CellsHeld}

@@ -19,7 +19,7 @@ use Rattle.flat_ir.specs.Machine.{FlatValue, FlatAfter, FlatState, Group, values
 use Rattle.flat_ir.specs.Machine.{Locals as FlatLocals}
 use Rattle.lower.specs.declared.numbering.Shape.{Shape}
 use Rattle.lower.specs.Meanings.{IsWrapper}
-use Rattle.rt_cast.specs.Words.{kind_mask}
+use Rattle.object_layout.specs.Words.{kind_mask}
 use Rattle.rt_cast.specs.States.{Heap}
 use Rattle.lower.specs.Storage.{Filled}
 use Rattle.lower.specs.Numbering.{operand_word, test_word}

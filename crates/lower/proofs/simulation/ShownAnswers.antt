@@ -38,7 +38,7 @@ use Rattle.coercion_norm.specs.Coercions.{rows_of}
 use Rattle.coercion_norm.specs.Held.{TypesStand, There, HoldsType, type_object, rows_in, height_in}
 use Rattle.coercion_norm.specs.ObjectsOfRows.{header, type_kind}
 use Rattle.lower.specs.Lowered.{show_kept, open_object, open_small}
-use Rattle.rt_cast.specs.Words.{kind_mask}
+use Rattle.object_layout.specs.Words.{kind_mask}
 use Rattle.rt_cast.specs.DynWords.{small_dyn, IsDynBy}
 use Rattle.rt_cast.proofs.Public.{SmallIs, small_is, tag_read, no_tag, untagged, eq_false}
 use Rattle.lower.proofs.heap.Objects.{dyn_header}
@@ -53,7 +53,7 @@ use Rattle.low_ir.specs.Procedures.{Proc}
 use Rattle.std.proofs.Common.{le_refl}
 use Rattle.lower.proofs.simulation.RelationKept.{word_other}
 use Rattle.coercion_norm.specs.Objects.{Object, Fixed}
-use Rattle.rt_cast.specs.Frames.{frame_room, waiting_room}
+use Rattle.low_ir.specs.Frames.{frame_room, waiting_room}
 use Rattle.rt_cast.specs.States.{Heap}
 use Rattle.lower.specs.Storage.{Filled}
 use Rattle.lower.specs.Lowered.{show_by, ends}

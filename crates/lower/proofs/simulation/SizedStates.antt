@@ -12,7 +12,7 @@ use Rattle.cast_modes.specs.ValueSteps.{CastFrame, ProjFrame, PrimFrame, EnterFr
 use Rattle.cast_modes.specs.ValueSteps.{casts_onto}
 use Rattle.flat_ir.specs.Bodies.{Proc}
 use Rattle.flat_ir.specs.Machine.{FlatFrame, FlatFocus, FlatState, Group, Inside, Waiting}
-use Rattle.rt_cast.specs.Frames.{frame_room, waiting_room, stack_room}
+use Rattle.low_ir.specs.Frames.{frame_room, waiting_room, stack_room}
 use Rattle.lower.specs.declared.numbering.Shape.{Shape}
 use Rattle.lower.specs.declared.served.Served.{Served}
 use Rattle.lower.specs.Emit.{Then, ToCaller, Into}

@@ -2,7 +2,7 @@
 use Rattle.std.proofs.Common.{◌≡◌, ◌⊎◌, inl, inr, ℕ, suc, ◌+◌, ◌*◌, ◌≤◌, List, [], ◌∷◌, length, Option, Some}
 use Rattle.std.proofs.Common.{Bool, false, arith, le_refl, refl}
 use Rattle.std.specs.Prelude.{if◌then◌else◌, ◌-◌}
-use Rattle.core_calc.specs.Account.{Measures}
+use Rattle.core_calc.specs.Account.{Measures, StepKind}
 use Rattle.std.proofs.Common.{None}
 use Rattle.std.proofs.Common.{slice_get, true}
 use Rattle.grift_base.specs.Types.{TypeRow, row_at}
@@ -20,11 +20,12 @@ use Rattle.cast_modes.specs.Modes.{Mode, TypeCast}
 use Rattle.cast_modes.specs.ValueSteps.{CastFrame, ProjFrame, PrimFrame, EnterFrame, OwnFrame, Own, Return, Entering}
 use Rattle.flat_ir.specs.Bodies.{Body, Give, Call, Choose, LetBody, LetGroup, Proc}
 use Rattle.flat_ir.specs.Closed.{each_closed}
-use Rattle.flat_ir.specs.FlatTally.{Cost, Prices, flat_cost, flat_atoms}
+use Rattle.flat_ir.specs.FlatTally.{flat_cost, flat_atoms}
+use Rattle.cast_modes.specs.Prices.{Cost, Prices}
 use Rattle.flat_ir.specs.Machine.{FlatFrame, FlatFocus, FlatAfter, FlatState, Inside, Waiting, after_flat, flat_turn}
 use Rattle.coercion_norm.specs.Objects.{Object}
 use Rattle.coercion_norm.specs.Held.{Layout}
-use Rattle.rt_cast.specs.Frames.{frame_room, waiting_room, stack_room}
+use Rattle.low_ir.specs.Frames.{frame_room, waiting_room, stack_room}
 use Rattle.rt_cast.specs.States.{Placed, Heap, heap_of}
 use Rattle.lower.specs.Storage.{Filled}
 use Rattle.lower.specs.declared.served.Served.{Served}
@@ -97,7 +98,7 @@ abbrev pub mode_of : (program : Program) → Mode program.meaning.Cast
 mode_of program = program.meaning.mode program.l.types program.casts
 
 -- what turns may cost
-abbrev pub prices_of : (program : Program) → Prices program.meaning.Cast
+abbrev pub prices_of : (program : Program) → Prices StepKind program.meaning.Cast
 prices_of program = program.meaning.prices program.l.types program.casts program.measured
 
 -- ---- what has to be paid yet by turns that have no budget, beside a return that is next: the ends of branches

@@ -22,7 +22,7 @@ use Rattle.object_layout.specs.Kinds.{kind_number}
 use Rattle.coercion_norm.specs.Objects.{Object, Fixed, Cell, bytes_of, bytes_of_all}
 use Rattle.rt_cast.specs.Objects.{HoldsWords}
 use Rattle.coercion_norm.specs.ObjectsOfRows.{header}
-use Rattle.rt_cast.specs.Frames.{frame_room, waiting_room}
+use Rattle.low_ir.specs.Frames.{frame_room, waiting_room}
 use Rattle.rt_cast.specs.States.{Heap}
 use Rattle.lower.specs.Storage.{Filled}
 use Rattle.lower.specs.declared.numbering.Shape.{Shape}

@@ -24,7 +24,7 @@ use Rattle.flat_ir.specs.declared.code.Operand.TheVariants.{Unit as UnitCase}
 use Rattle.flat_ir.specs.Closed.{operand_bound, operands_bound}
 use Rattle.flat_ir.specs.Machine.{Group, Locals as FlatLocals, value, values}
 use Rattle.coercion_norm.specs.Objects.{Object}
-use Rattle.rt_cast.specs.Frames.{frame_room, waiting_room}
+use Rattle.low_ir.specs.Frames.{frame_room, waiting_room}
 use Rattle.rt_cast.specs.States.{Heap}
 use Rattle.lower.specs.Storage.{Filled}
 use Rattle.lower.specs.declared.numbering.Shape.{Shape}

@@ -24,8 +24,8 @@ use Rattle.flat_ir.specs.Closed.{operand_bound, operands_bound, operation_bound}
 use Rattle.flat_ir.specs.Machine.{FlatValue, FlatValues, Group, Locals as FlatLocals, value, values}
 use Rattle.object_layout.specs.Kinds.{kind_number}
 use Rattle.coercion_norm.specs.Objects.{Object, Fixed, bytes_of, bytes_of_all, object_at}
-use Rattle.rt_cast.specs.Words.{kind_mask}
-use Rattle.rt_cast.specs.Frames.{frame_room, waiting_room}
+use Rattle.object_layout.specs.Words.{kind_mask}
+use Rattle.low_ir.specs.Frames.{frame_room, waiting_room}
 use Rattle.rt_cast.specs.States.{Heap}
 use Rattle.lower.specs.Storage.{Filled}
 use Rattle.lower.specs.declared.numbering.Shape.{Shape}

@@ -19,13 +19,13 @@ use Rattle.low_ir.specs.declared.code.LowSource.TheVariants.{Word, Number}
 use Rattle.low_ir.specs.Operations.{compute}
 use Rattle.low_ir.specs.Procedures.{Code, Done, Compute, Set, Environment}
 use Rattle.low_ir.specs.Steps.{Locals, set_local}
-use Rattle.low_ir.specs.Run.{Setting, Waiting, word_of, words_of, and_more, code_step}
+use Rattle.low_ir.specs.Run.{Setting, Waiting, word_of, words_of, and_more, code_step, LowState}
 use Rattle.cast_modes.specs.RunValues.{RunInt, RunBool, in_row}
 use Rattle.flat_ir.specs.declared.code.Operand.{Operand}
 use Rattle.flat_ir.specs.Closed.{operands_bound}
 use Rattle.flat_ir.specs.Machine.{FlatValue, Group, Locals as FlatLocals, value, values}
 use Rattle.coercion_norm.specs.Objects.{Object}
-use Rattle.rt_cast.specs.Frames.{frame_room, waiting_room}
+use Rattle.low_ir.specs.Frames.{frame_room, waiting_room}
 use Rattle.rt_cast.specs.States.{Heap}
 use Rattle.lower.specs.Storage.{Filled}
 use Rattle.lower.specs.declared.numbering.Shape.{Shape}
@@ -43,7 +43,6 @@ use Rattle.run_laws.specs.Runs.{Verdict as EndsWith}
 use Rattle.run_laws.specs.Machines.{Stop}
 use Rattle.machine_words.specs.Halts.{ending_of}
 use Rattle.low_ir.specs.Procedures.{Call}
-use Rattle.low_ir.specs.Run.{LowState}
 use Rattle.rt_refs.specs.Answering.{AnswersFor, TrapsNext}
 use Rattle.lower.specs.SimulationServices.{AnswerProducts}
 use Rattle.lower.proofs.words.Arithmetic.{word_small, product_made, quotient_wraps, remainder_wraps, no_divisor}

@@ -20,7 +20,7 @@ use Rattle.low_ir.specs.Steps.{given, only_if, settle, may_load, may_store, Effe
 use Rattle.low_ir.specs.Run.{Setting, Waiting, LowState, code_step, falls, answers, word_of, words_of, proc_from}
 use Rattle.low_ir.specs.Run.{with_local}
 use Rattle.low_ir.specs.declared.code.LowSource.TheVariants.{Number}
-use Rattle.rt_cast.specs.Frames.{frame_room, waiting_room, stack_room}
+use Rattle.low_ir.specs.Frames.{frame_room, waiting_room, stack_room}
 use Rattle.lower.proofs.words.EmitPrices.{source_most, slot_most, leaving_most}
 
 -- ---- no procedure has more than so many words

@@ -1,6 +1,6 @@
 use Rattle.coercion_norm.specs.MergedMode.{merging}
 use Rattle.cast_modes.specs.Modes.{piling}
-use Rattle.flat_ir.specs.FlatTally.{piled_prices, merged_prices}
+use Rattle.coer_core.specs.TurnPrices.{piled_prices, merged_prices}
 use Rattle.closure_convert.proofs.AskedFor.{turns_asked, piled_enough, merged_enough}
 use Rattle.closure_convert.proofs.laws.procedures_ask_for_what_they_make.Goals as goal
 

@@ -16,8 +16,8 @@ use Rattle.flat_ir.specs.Counts.{flat_run_in}
 use Rattle.flat_ir.specs.Levels.{HaveLevels}
 use Rattle.closure_convert.specs.Bounds.{CountsKept}
 use Rattle.closure_convert.specs.Conversion.{converted, made}
-use Rattle.flat_ir.specs.FlatTally.{FlatBelow, FlatPaidBelow, flat_tally_in, merged_prices}
-use Rattle.flat_ir.specs.FlatTally.{piled_prices}
+use Rattle.flat_ir.specs.FlatTally.{FlatBelow, FlatPaidBelow, flat_tally_in}
+use Rattle.coer_core.specs.TurnPrices.{merged_prices, piled_prices}
 use Rattle.closure_convert.proofs.Closing.{converted_closed}
 use Rattle.closure_convert.proofs.FewLevels.{procedures_have_few_levels}
 use Rattle.closure_convert.proofs.Standing.{IsClosedTerm, converted_follows}

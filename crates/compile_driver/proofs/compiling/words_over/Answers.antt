@@ -13,7 +13,8 @@ use Rattle.core_calc.specs.Account.{account, extent, measures_of}
 use Rattle.coercion_norm.specs.MergedMode.{merging}
 use Rattle.coer_core.specs.Counts.{told_of}
 use Rattle.flat_ir.specs.Closed.{is_closed as is_closed_flat}
-use Rattle.flat_ir.specs.FlatTally.{FlatBelow, FlatPaidBelow, flat_tally_in, merged_prices}
+use Rattle.flat_ir.specs.FlatTally.{FlatBelow, FlatPaidBelow, flat_tally_in}
+use Rattle.coer_core.specs.TurnPrices.{merged_prices}
 use Rattle.flat_ir.specs.Views.{procs_of as procs_of_flat}
 use Rattle.closure_convert.specs.Conversion.{made}
 use Rattle.low_ir.specs.Closed.{is_closed}

@@ -1,8 +1,8 @@
 use Rattle.std.proofs.Common.{◌≡◌, ◌∙◌, ap, rules}
 use Rattle.std.proofs.lemmas.Result.{IfOk-weaker}
 use Rattle.rv_select.specs.Fitting.{each_fits}
-use Rattle.rv_slots.specs.Slots.{slots_items}
-use Rattle.rv_slots.specs.Slotted.{free_mark, EachHasFew, IsSlotsOf}
+use Rattle.reg_assign.specs.Slots.{slots_items}
+use Rattle.reg_assign.specs.Slotted.{free_mark, EachHasFew, IsSlotsOf}
 use Rattle.reg_assign.specs.Places.{place_in}
 use Rattle.reg_assign.specs.Rename.{densely, renamed}
 use Rattle.reg_assign.specs.Applied.{IsApplied}

@@ -1,6 +1,6 @@
 use Rattle.std.proofs.Common.{◌≡◌, ◌+◌, ◌++◌, ◌∷◌, refl, sym, ◌∙◌, ap, subst, drop}
 use Rattle.rv_select.specs.declared.code.VirtualItem.TheVariants.{Procedure}
-use Rattle.rv_slots.specs.Slotted.{EachHasFew}
+use Rattle.reg_assign.specs.Slotted.{EachHasFew}
 use Rattle.reg_assign.specs.Places.{place_in}
 use Rattle.reg_assign.specs.Rename.{kept_in, densely, rename_all}
 use Rattle.reg_assign.proofs.Renamed.{put_procedure, put_other, few_procedure, few_other, rest_is}

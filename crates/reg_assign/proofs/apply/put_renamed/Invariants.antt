@@ -1,5 +1,5 @@
 use Rattle.std.proofs.Common.{◌≡◌, ◌++◌, ℕ, drop}
-use Rattle.rv_slots.specs.Slotted.{EachHasFew}
+use Rattle.reg_assign.specs.Slotted.{EachHasFew}
 use Rattle.reg_assign.specs.Places.{place_in}
 use Rattle.reg_assign.specs.Rename.{kept_in, densely, rename_all}
 use Rattle.reg_assign.proofs.apply.put_renamed.Given as goal

@@ -1,5 +1,6 @@
 use Rattle.std.proofs.Common.{ap, ◌∙◌}
-use Rattle.rt_cast.specs.PartCodes.{proc, middle_code, apart}
+use Rattle.rt_cast.specs.PartCodes.{middle_code, apart}
+use Rattle.low_ir.specs.Codes.{proc}
 use Rattle.rt_cast.proofs.PartCodeLemmas.{middles_more}
 use Rattle.rt_cast.proofs.procs.push_middles.Goals as goal
 

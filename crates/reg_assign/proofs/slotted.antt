@@ -1,0 +1,19 @@
+-- Real code with slots follows the virtual code that it stands for.
+pub mod Halves
+pub mod Paying
+pub mod PutWords
+pub mod Items
+pub mod Frames
+pub mod SlotPrices
+pub mod SlotWords
+pub mod SlotItems
+pub mod SlotMarks
+pub mod SlotCalls
+pub mod SlotReturns
+pub mod SlotSteps
+pub mod Stopping
+pub mod SlotDistinct
+pub mod SlotConditions
+pub mod InStack
+pub mod SlotRuns
+pub mod SlotClaims

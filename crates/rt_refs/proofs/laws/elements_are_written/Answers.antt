@@ -1,8 +1,0 @@
-use Rattle.rt_refs.proofs.OverObjects.{elements_are_written}
-use Rattle.rt_refs.proofs.laws.elements_are_written.Goals as goal
-
-pub returns : goal.returns
-returns g c = λ reading setting l first s exhausts ready low objects filled begins head u wv hv a d behind ws cell
-    which i word old got x hx r e some.
-    elements_are_written reading setting l first s exhausts ready low objects filled begins head u wv hv a d behind ws
-    cell which i word old got x hx r e some

@@ -1,6 +1,0 @@
-use Rattle.rt_refs.proofs.Filling.{vectors_are_made}
-use Rattle.rt_refs.proofs.laws.vectors_are_made.Goals as goal
-
-pub returns : goal.returns
-returns g c = λ reading setting l s exhausts placed begins narrow own there objects filled n w small positive.
-    vectors_are_made reading setting l s exhausts placed begins narrow own there objects filled n w small positive
