@@ -31,7 +31,7 @@ length_labels (label ∷ rest) =
     let b = length_labels rest in
     let c : length (label_bytes label) ≡ 8 = refl in omega arith
 
-length_image : (statics code : List ℕ) (labels : List Pos)
+pub length_image : (statics code : List ℕ) (labels : List Pos)
     → length (image_bytes statics code labels) ≡ 64 + length statics + length code + 8 * length labels
 length_image statics code labels =
     omega (

@@ -178,6 +178,26 @@ fn put_arguments(
     Ok(true)
 }
 
+// A copy of a body, with arguments in the place of as many parameters, and with the functions of a group in the place of
+// their names. None where the numbers differ.
+fn copy_entered(
+    alloc: Global,
+    params: &[VarId],
+    body: &Core,
+    arguments: &CoreList,
+    members: &GroupMembers,
+) -> Result<Option<Core>, OutOfMemory>
+    ensures { IfOk result (λ o. option_map term_of o
+        ≡ with_arguments (names_of params.now) (term_of body.now) (group_values (members_of members.now))
+        (terms_of arguments.now)) }
+{
+    let mut body = copy_term(alloc, body)?;
+    if !put_arguments(alloc, params, &mut body, arguments, members)? {
+        return Ok(None);
+    }
+    Ok(Some(body))
+}
+
 // A copy of a term in a cast.
 fn copy_in_cast(
     alloc: Global,
@@ -281,17 +301,9 @@ fn entered(
             let Some(member) = members.get(*place as u64) else {
                 return Ok(None);
             };
-            let mut body = copy_term(alloc, &member.body)?;
-            if !put_arguments(
-                alloc,
-                member.params.as_slice(),
-                &mut body,
-                arguments,
-                members,
-            )? {
-                return Ok(None);
-            }
-            Ok(Some(body))
+            let params = member.params.as_slice();
+            let body = copy_entered(alloc, params, &member.body, arguments, members)?;
+            Ok(body)
         }
         _ => Ok(None),
     }

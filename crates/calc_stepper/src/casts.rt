@@ -1,9 +1,10 @@
 // Casts and parts of values.
 
-ghost use Rattle.std.specs.Prelude.{◌≡◌, IfOk, OnErr, option_map};
+ghost use Rattle.std.specs.Prelude.{◌≡◌, IfNone, IfOk, OnErr, option_map};
 ghost use Rattle.grift_base.specs.World.{WorldState};
 ghost use Rattle.core_calc.specs.Outcome.{Store};
-ghost use Rattle.core_calc.specs.Views.{term_of};
+ghost use Rattle.core_calc.specs.Terms.{as_value};
+ghost use Rattle.core_calc.specs.Views.{term_of, value_of};
 ghost use Rattle.calc_stepper.specs.Moves.{after};
 ghost use Rattle.calc_stepper.specs.Redexes.{cast_redex, dyn_part_asked, part_asked, proj_dyn_redex, proj_redex};
 
@@ -15,10 +16,25 @@ use crate::forms::{
 use crate::moves::Moved;
 use core_calc::terms::{Core, Value};
 use grift_base::lists::OutOfMemory;
+use grift_base::made::both_boxed;
 use grift_base::places::LabelId;
 use std::alloc::Global;
 use std::mem;
 use type_graph::tables::TypeTable;
+
+// Takes out the value that a term is, in a box. A term that is none stays, as each does where memory runs out.
+fn take_boxed(alloc: Global, term: &mut Core) -> Result<Option<Box<Value>>, OutOfMemory>
+    ensures taken { IfOk result (λ o. option_map (λ b. value_of b.value) o ≡ as_value (term_of term.old)) }
+    ensures same { IfOk result (λ o. IfNone o (term_of term.new ≡ term_of term.old)) }
+    ensures stays { OnErr result (term_of term.new ≡ term_of term.old) }
+{
+    let mut place = boxed_value(alloc, Value::Unit)?;
+    let Some(v) = take_value(term) else {
+        return Ok(None);
+    };
+    *place = v;
+    Ok(Some(place))
+}
 
 /// Casts a value.
 pub fn cast_redex(alloc: Global, types: &TypeTable, term: &mut Core) -> Result<Moved, OutOfMemory>
@@ -40,12 +56,10 @@ pub fn cast_redex(alloc: Global, types: &TypeTable, term: &mut Core) -> Result<M
         return Ok(Moved::Stuck);
     };
     if is_dyn(second) && !is_dyn(first) {
-        let mut place = boxed_value(alloc, Value::Unit)?;
-        let Some(v) = take_value(inner) else {
+        let Some(v) = take_boxed(alloc, inner)? else {
             return Ok(Moved::Stuck);
         };
-        *place = v;
-        *term = Core::Value(Value::Inject(place, *from));
+        *term = Core::Value(Value::Inject(v, *from));
         return Ok(Moved::Goes);
     }
     if is_dyn(first) && !is_dyn(second) {
@@ -66,12 +80,10 @@ pub fn cast_redex(alloc: Global, types: &TypeTable, term: &mut Core) -> Result<M
         *term = Core::Value(v);
         return Ok(Moved::Goes);
     }
-    let mut place = boxed_value(alloc, Value::Unit)?;
-    let Some(v) = take_value(inner) else {
+    let Some(v) = take_boxed(alloc, inner)? else {
         return Ok(Moved::Stuck);
     };
-    *place = v;
-    *term = Core::Value(Value::Wrap(place, *from, *label, *to));
+    *term = Core::Value(Value::Wrap(v, *from, *label, *to));
     Ok(Moved::Goes)
 }
 
@@ -167,8 +179,7 @@ pub fn proj_dyn_redex(
     let Some(to) = dyn_type(types) else {
         return Ok(Moved::Stuck);
     };
-    let mut place = boxed(alloc, Core::Unit)?;
-    let mut below = boxed(alloc, Core::Unit)?;
+    let (mut place, mut below) = both_boxed(alloc, Core::Unit, Core::Unit)?;
     let Some((held, _)) = take_injected(inner) else {
         return Ok(Moved::Stuck);
     };

@@ -191,6 +191,23 @@ fn without_names(
     Ok(Some(left))
 }
 
+// The same but for the names of another group.
+fn without_group(
+    alloc: Global,
+    group: &GroupMembers,
+    entries: &[Entry],
+    members: &GroupMembers,
+) -> Result<Option<Vec<Entry>>, OutOfMemory>
+    ensures { IfOk result (λ o. MatchOption o
+        (without (member_names (members_of group.now)) (with_group entries.now (members_of members.now))
+        ≡ with_group entries.now (members_of members.now))
+        (λ left. without (member_names (members_of group.now)) (with_group entries.now (members_of members.now))
+        ≡ with_group left.items NoMembers)) }
+{
+    let names = names_of_members(alloc, group)?;
+    without_names(alloc, names.as_slice(), entries, members)
+}
+
 // The function of a group that has this name.
 fn member_value(
     alloc: Global,
@@ -264,8 +281,7 @@ fn find(
             find_under(alloc, params.as_slice(), body, entries, members, holes)
         }
         Core::Group(group, body) => {
-            let names = names_of_members(alloc, group)?;
-            if let Some(left) = without_names(alloc, names.as_slice(), entries, members)? {
+            if let Some(left) = without_group(alloc, group, entries, members)? {
                 let none = GroupMembers::Nil;
                 find_in_members(alloc, group, left.as_slice(), &none, holes)?;
                 return find(alloc, body, left.as_slice(), &none, holes);
@@ -274,15 +290,11 @@ fn find(
             find(alloc, body, entries, members, holes)
         }
         Core::Let(bindings, body) => {
-            let names = names_of_bindings(alloc, bindings)?;
             find_in_bindings(alloc, bindings, entries, members, holes)?;
+            let names = names_of_bindings(alloc, bindings)?;
             find_under(alloc, names.as_slice(), body, entries, members, holes)
         }
-        Core::Call(function, arguments) => {
-            find(alloc, function, entries, members, holes)?;
-            find_in_terms(alloc, arguments, entries, members, holes)
-        }
-        Core::Enter(function, arguments) => {
+        Core::Call(function, arguments) | Core::Enter(function, arguments) => {
             find(alloc, function, entries, members, holes)?;
             find_in_terms(alloc, arguments, entries, members, holes)
         }
@@ -291,12 +303,12 @@ fn find(
             find(alloc, on_true, entries, members, holes)?;
             find(alloc, on_false, entries, members, holes)
         }
-        Core::Seq(terms) => find_in_terms(alloc, terms, entries, members, holes),
-        Core::Cast(inner, _, _, _) => find(alloc, inner, entries, members, holes),
-        Core::Proj(inner, _) => find(alloc, inner, entries, members, holes),
-        Core::ProjDyn(inner, _, _) => find(alloc, inner, entries, members, holes),
-        Core::Tuple(parts) => find_in_terms(alloc, parts, entries, members, holes),
-        Core::Prim(_, operands) => find_in_terms(alloc, operands, entries, members, holes),
+        Core::Cast(inner, _, _, _) | Core::Proj(inner, _) | Core::ProjDyn(inner, _, _) => {
+            find(alloc, inner, entries, members, holes)
+        }
+        Core::Seq(terms) | Core::Tuple(terms) | Core::Prim(_, terms) => {
+            find_in_terms(alloc, terms, entries, members, holes)
+        }
     }
 }
 

@@ -7,14 +7,14 @@ use Rattle.std.specs.Prelude.{get_or}
 use Rattle.std.proofs.lemmas.Option.{slice_get_within, get_or_from_slice_get}
 use Rattle.std.specs.HashMap.{get}
 use Rattle.std.specs.Cmp.Lexicographic.{pointwise}
-use Rattle.std.proofs.lemmas.Bool.{eqb-true, eq-eqb, and_parts}
+use Rattle.std.proofs.lemmas.Bool.{eqb-true, eq-eqb}
 use Rattle.std.proofs.lemmas.List.{reverse-append, reverse-reverse, length-reverse, length-append, append_assoc}
 use Rattle.std.proofs.lemmas.List.{drop_at, drop-drop, map-append}
 use Rattle.std.proofs.lemmas.List.{take_more}
 use Rattle.std.specs.Prelude.{take, ◌+◌}
 use Rattle.cast_insert.specs.declared.names.Named.{Named}
 use Rattle.type_graph.specs.Forming.{equal_numbers}
-use Rattle.type_graph.proofs.Public.{none_is_not_some, same_some, get_kept}
+use Rattle.type_graph.proofs.Public.{none_is_not_some, same_some, get_kept, equal_lists}
 use Rattle.surface_trees.specs.declared.names.Ident.{Ident}
 use Rattle.surface_trees.specs.declared.names.Ident.TheVariants.{Source, Fresh}
 use Rattle.surface_trees.specs.contracts.names.IdentPartialEq.TheImpl.{ghosts}
@@ -39,16 +39,6 @@ same_test (Source a) (Source b) = equal_bytes a b
 same_test (Source a) (Fresh n) = refl
 same_test (Fresh m) (Source b) = refl
 same_test (Fresh m) (Fresh n) = refl
-
-equal_lists : (xs ys : List ℕ) → equal_numbers xs ys ≡ true → xs ≡ ys
-equal_lists [] [] e = refl
-equal_lists [] (y ∷ ys) e = cc
-equal_lists (x ∷ xs) [] e = cc
-equal_lists (x ∷ xs) (y ∷ ys) e =
-    let both = and_parts (nat_eq x y) (equal_numbers xs ys) e in
-    let head = eqb-true x y both.0 in
-    let rest = equal_lists xs ys both.1 in
-    cc
 
 numbers_same : (xs : List ℕ) → equal_numbers xs xs ≡ true
 numbers_same [] = refl

@@ -1,14 +1,12 @@
-// Refusals, boxes and copies.
+// Refusals, boxes, and names that are copied.
 
 ghost use Rattle.std.specs.Prelude.{◌≡◌, ◌∷◌, Err, IfOk, OnOk};
-ghost use Rattle.type_graph.specs.Rows.{row_of};
 
 use grift_base::lists::{Name, OutOfMemory};
 use grift_base::places::Pos;
 use grift_base::refusals::{FrontFault, Refusal, RefusalKind};
 use std::alloc::Global;
 use surface_trees::names::Ident;
-use type_graph::rows::{Row, TypeIds};
 
 pub(crate) fn refused<T>(kind: RefusalKind, pos: Pos) -> Result<T, FrontFault>
     ensures { result ≡ Err (FrontFault.Refused (record { kind = kind; pos = pos })) }
@@ -21,25 +19,6 @@ pub(crate) fn boxed<T: Drop>(alloc: Global, value: T) -> Result<Box<T>, OutOfMem
     ensures { IfOk result (λ b. b.value ≡ value) }
 {
     Ok(Box::new(alloc, value)?)
-}
-
-/// The same row again.
-pub(crate) fn copy_of_row(alloc: Global, row: &Row) -> Result<Row, OutOfMemory>
-    ensures { IfOk result (λ same. same ≡ row.now) }
-{
-    match row {
-        Row::Int => Ok(Row::Int),
-        Row::Bool => Ok(Row::Bool),
-        Row::Unit => Ok(Row::Unit),
-        Row::Dyn => Ok(Row::Dyn),
-        Row::Fun(parameters, result) => Ok(Row::Fun(
-            TypeIds::from_slice(alloc, parameters.as_slice())?,
-            *result,
-        )),
-        Row::Tuple(parts) => Ok(Row::Tuple(TypeIds::from_slice(alloc, parts.as_slice())?)),
-        Row::Ref(content) => Ok(Row::Ref(*content)),
-        Row::Vect(content) => Ok(Row::Vect(*content)),
-    }
 }
 
 /// The same name again.

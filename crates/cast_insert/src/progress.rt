@@ -14,7 +14,7 @@ ghost use Rattle.cast_insert.specs.Room.{Grows, AreParts, MayPart};
 ghost use Rattle.cast_insert.specs.Views.{Answers, entry_of, place_if, typed_of, work_of};
 
 use crate::casts::{CastEntry, CastList};
-use crate::copies::{boxed, copy_of_row, refused};
+use crate::copies::{boxed, refused};
 use crate::written::{form_type, put};
 use consistency::checks::consistent;
 use core_calc::terms::{Core, VarId};
@@ -66,7 +66,7 @@ impl Progress {
         if ty.0 >= self.types.len() {
             return Err(OutOfMemory);
         }
-        copy_of_row(alloc, self.types.row(ty))
+        self.types.row(ty).duplicate(alloc)
     }
 
     /// A variable that nothing else binds.

@@ -12,7 +12,6 @@ ghost use Rattle.cast_insert.specs.Programs.{depth_of_node, how_many_types, most
 ghost use Rattle.cast_insert.specs.Room.{AreWithin, Grows, IsWithin, StandsOn};
 ghost use Rattle.cast_insert.specs.WrittenTypes.{form_node, form_type, form_types};
 
-use crate::copies::copy_of_row;
 use grift_base::lists::OutOfMemory;
 use grift_base::places::TypeId;
 use std::alloc::Global;
@@ -61,7 +60,7 @@ fn form_node(alloc: Global, types: &mut TypeTable, node: &TypeNode) -> Result<Ty
     ensures within { IfOk result (λ ty. IsWithin types.new (depth_of_node (type_node_of node.now)) ty.0) }
 {
     match node {
-        TypeNode::Base(row) => put(types, copy_of_row(alloc, row)?),
+        TypeNode::Base(row) => put(types, row.duplicate(alloc)?),
         TypeNode::Fun(parameters, result) => {
             let parameters = form_types(alloc, types, parameters)?;
             let result = form_type(alloc, types, result)?;

@@ -12,7 +12,8 @@ abbrev pub no_cost : Cost
 no_cost = record { acts = 0; asks = 0; budget = 0 }
 
 -- what a cast costs at a value of a shape, what a part of a value in Dyn costs, and what other turns cost by the kinds
--- of their steps, with the words that they make and those of functions among them
+-- of their steps, with the words that they make and those of functions among them. K has the kinds of steps, C the
+-- casts; a turn that makes no step has no kind.
 pub record Prices (K C : Type 0) : Type 0 where
   pub cast : C → Shape C → Cost
   pub part : Cost

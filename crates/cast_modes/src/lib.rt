@@ -1,5 +1,5 @@
-//! What casts do to values, whatever a cast is: modes, the values of runs, the steps that they make, and how runs are
-//! counted.
+//! What casts do to values, whatever a cast is: modes, the values of runs, the steps that they make, how runs are
+//! counted, and what their turns cost.
 //!
 //! The definitions stand in `specs`. A function here has an empty body: its contract is a law of them.
 #![tactic(auto)]

@@ -26,17 +26,6 @@ follows_of_within {A = A} {B = B} {V = V} {K = K} {L = L} {X = X} {Y = Y} f = fo
       forth = λ i. let b = f.forth i in (b.0, tt, b.2);
     }
 
--- a larger account
-pub within_weaken : {A B V : Type 0} {K L K' L' : A → B → Type 0} {X : Run A V} {Y : Run B V}
-    → ((a : A) (b : B) → K a b → K' a b) → ((a : A) (b : B) → L a b → L' a b) → FollowsWithin K L X Y
-    → FollowsWithin K' L' X Y
-within_weaken {X = X} {Y = Y} k l f = record {
-  back =
-      λ i. let b = f.back i in
-      (b.0, (record { output = b.1.0.output; shown = k (X i).shown (Y b.0).shown b.1.0.shown }, b.1.1));
-  forth = λ i. let b = f.forth i in (b.0, l (X b.0).shown (Y i).shown b.1, b.2);
-}
-
 module _ {C : Type 0} (mode : Mode C) (told : Told) (price : Price C) where
   pub priced_moments : (s : Priced C)
       → SameMoments (reduction_run (pricing mode told price) s) (reduction_run (running mode told) s.state)

@@ -3,7 +3,6 @@ use Rattle.std.proofs.Common.{◌≡◌, ℕ, zero, suc, ◌+◌, ◌<◌, ◌�
 use Rattle.std.proofs.Common.{sym}
 use Rattle.std.proofs.Common.{nat_eq, ap₂}
 use Rattle.std.proofs.Common.{ap, ◌∙◌, subst, List, [], ◌∷◌, length, All, arith}
-use Rattle.std.proofs.lemmas.Bool.{eq-eqb}
 use Rattle.std.proofs.lemmas.Option.{get_or_from_slice_get}
 use Rattle.grift_base.specs.Types.{TypeRow, TypeRows, IntRow, BoolRow, UnitRow, DynRow, FunRow, TupleRow, RefRow}
 use Rattle.grift_base.specs.Types.{VectRow, row_at, is_dyn, same_head, parts_of, head_of}
@@ -169,11 +168,10 @@ module _ (types : TypeRows) (table : IsOrderedTable types) where
     pub cast_solid : cast_of types from to label ≡ coerce_solid (rows_of types) (cast_of types) from to label
     cast_solid = by_flags false false from to label from_solid to_solid
 
-    pub cast_same : from ≡ to → cast_of types from to label ≡ Id
+    pub cast_same : nat_eq from to ≡ true → cast_of types from to label ≡ Id
     cast_same e =
         cast_solid ∙ ap (λ b. cond b Id (cond (same_head (rows_of types from) (rows_of types to))
-        (coerce_middle (rows_of types) (cast_of types) (kind_of (rows_of types from)) from to label) (Fail label)))
-        (eq-eqb from to e)
+        (coerce_middle (rows_of types) (cast_of types) (kind_of (rows_of types from)) from to label) (Fail label))) e
 
     pub cast_clash : nat_eq from to ≡ false → same_head (rows_of types from) (rows_of types to) ≡ false
         → cast_of types from to label ≡ Fail label

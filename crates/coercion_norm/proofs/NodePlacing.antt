@@ -24,7 +24,8 @@ use Rattle.coercion_norm.specs.StaticObjects.{HoldsCoercion, Tells, coercion_hea
 use Rattle.coercion_norm.specs.StaticObjects.{node_object, words_at}
 use Rattle.coercion_norm.specs.Placed.{ArePlaced}
 use Rattle.coercion_norm.proofs.NodeLemmas.{tree_is}
-use Rattle.coercion_norm.proofs.Objects.{number_of_kind, within_both}
+use Rattle.object_layout.proofs.Public.{number_of_kind}
+use Rattle.coercion_norm.proofs.Objects.{within_both}
 use Rattle.coercion_norm.proofs.PartWords.{IsPart, coercion_address, coercion_as_high, count_of_trees, middle_wanted}
 use Rattle.coercion_norm.proofs.PartWords.{not_at_zero, parts_as_high, parts_stand, parts_wanted, type_address}
 use Rattle.coercion_norm.proofs.PartWords.{type_as_high}

@@ -12,16 +12,13 @@ use Rattle.grift_base.specs.Types.{parts_of}
 use Rattle.type_graph.specs.TypeTables.{HasWidth}
 use Rattle.object_layout.specs.declared.headers.Header.{Header}
 use Rattle.object_layout.specs.declared.kinds.Kind.{Kind as ObjectKind}
-use Rattle.object_layout.specs.declared.kinds.Kind.TheVariants.{Closure, Proxy, Dyn, Tuple, Boxed, Vector, Fail, Fun}
-use Rattle.object_layout.specs.declared.kinds.Kind.TheVariants.{Tup, Ref, Vec, Inject, Project, IntType, BoolType}
-use Rattle.object_layout.specs.declared.kinds.Kind.TheVariants.{UnitType, DynType, FunType, TupleType, RefType, VecType}
 use Rattle.object_layout.specs.declared.wholes.Area.TheVariants.{Statics as InStatics}
 use Rattle.object_layout.specs.Headers.{packed, unpacked}
-use Rattle.object_layout.specs.Kinds.{kind_number, kind_of, allows_count, wanted_words}
+use Rattle.object_layout.specs.Kinds.{kind_of, allows_count, wanted_words}
 use Rattle.object_layout.specs.declared.wholes.Area.{Area}
 use Rattle.object_layout.specs.Wholes.{Fills, IsNth}
 use Rattle.object_layout.specs.Wholes.{Telling, AreWanted, HasHeight, IsWhole, header_at, kind_at}
-use Rattle.object_layout.proofs.Public.{unpacks}
+use Rattle.object_layout.proofs.Public.{unpacks, number_of_kind, small_number}
 use Rattle.coercion_norm.specs.StaticObjects.{StandEach, Tells, header, type_kind, words_at}
 
 -- ---- words
@@ -58,52 +55,6 @@ pub told_last : (told : List ℕ) (word k : ℕ) → k ≡ length told → slice
 told_last told word k e = ap (λ i. get_or (told ++ word ∷ []) i 0) e ∙ get_or-append_seam told word [] 0
 
 -- ---- headers
-
-pub number_of_kind : (kind : ObjectKind) → kind_of (kind_number kind) ≡ Some kind
-number_of_kind Closure = refl
-number_of_kind Proxy = refl
-number_of_kind Dyn = refl
-number_of_kind Tuple = refl
-number_of_kind Boxed = refl
-number_of_kind Vector = refl
-number_of_kind Fail = refl
-number_of_kind Fun = refl
-number_of_kind Tup = refl
-number_of_kind Ref = refl
-number_of_kind Vec = refl
-number_of_kind Inject = refl
-number_of_kind Project = refl
-number_of_kind IntType = refl
-number_of_kind BoolType = refl
-number_of_kind UnitType = refl
-number_of_kind DynType = refl
-number_of_kind FunType = refl
-number_of_kind TupleType = refl
-number_of_kind RefType = refl
-number_of_kind VecType = refl
-
-small_number : (kind : ObjectKind) → kind_number kind < 2 ^ 8
-small_number Closure = omega arith
-small_number Proxy = omega arith
-small_number Dyn = omega arith
-small_number Tuple = omega arith
-small_number Boxed = omega arith
-small_number Vector = omega arith
-small_number Fail = omega arith
-small_number Fun = omega arith
-small_number Tup = omega arith
-small_number Ref = omega arith
-small_number Vec = omega arith
-small_number Inject = omega arith
-small_number Project = omega arith
-small_number IntType = omega arith
-small_number BoolType = omega arith
-small_number UnitType = omega arith
-small_number DynType = omega arith
-small_number FunType = omega arith
-small_number TupleType = omega arith
-small_number RefType = omega arith
-small_number VecType = omega arith
 
 -- the header that a word says
 pub told_header : (memory : Telling) (at : ℕ) (kind : ObjectKind) (high count : ℕ) → high < 2 ^ 16 → count < 2 ^ 32

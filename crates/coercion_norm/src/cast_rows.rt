@@ -9,7 +9,7 @@ use std::marker::Model;
 
 /// A cast and its coercion: the type from which, the type to which, the label that is blamed, and the place of the
 /// coercion in a table.
-#[derive(Clone, Copy, PartialEq, Eq, Hash, Debug)]
+#[derive(Clone, Copy, PartialEq, Eq, Hash)]
 pub struct CastRow {
     pub from: TypeId,
     pub to: TypeId,
@@ -18,7 +18,6 @@ pub struct CastRow {
 }
 
 /// Distinct casts in order of first use. A cast's number is its place, from 0.
-#[derive(Debug)]
 pub struct CastRows {
     rows: IndexSet<CastRow>,
 }

@@ -21,7 +21,7 @@ use std::collections::HashMap;
 use type_graph::tables::TypeTable;
 
 /// A cast: the type from which, the type to which, and the label that is blamed.
-#[derive(Clone, Copy, PartialEq, Eq, Hash, Debug)]
+#[derive(Clone, Copy, PartialEq, Eq, Hash)]
 pub struct Cast {
     pub from: TypeId,
     pub to: TypeId,
@@ -57,8 +57,7 @@ pub fn coerce(
         label,
     };
     let mut known = HashMap::new(alloc);
-    let c = coerce_known(alloc, &mut known, table, types, cast)?;
-    Ok(c)
+    coerce_known(alloc, &mut known, table, types, cast)
 }
 
 /// The coercion of a cast, where those of these casts are there.

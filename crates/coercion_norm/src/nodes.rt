@@ -16,7 +16,7 @@ pub struct CoercionId(pub u32);
 pub type CoercionIds = Items<CoercionId>;
 
 /// A coercion: its constructor, and the places of its parts in the table that the node stands in.
-#[derive(PartialEq, Eq, Hash, Debug)]
+#[derive(PartialEq, Eq, Hash)]
 pub enum CoercionNode {
     /// Changes nothing.
     Id,

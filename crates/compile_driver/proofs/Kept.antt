@@ -22,7 +22,7 @@ use Rattle.coercion_norm.specs.Objects.{Object, object_at}
 use Rattle.coercion_norm.specs.StaticObjects.{Tells, static_headers, type_header, type_kind}
 use Rattle.coercion_norm.specs.Statics.{AreStatics, objects_of}
 use Rattle.coercion_norm.specs.declared.cast_rows.CastRow.{CastRow}
-use Rattle.coercion_norm.proofs.Public.{number_of_kind}
+use Rattle.object_layout.proofs.Public.{number_of_kind}
 use Rattle.rt_cast.specs.Objects.{HasWord, Holds, HoldsWords}
 use Rattle.rt_cast.specs.States.{Filled, Heap}
 use Rattle.rt_cast.proofs.Public.{objects_fill_the_region}

@@ -3,20 +3,10 @@ use Rattle.std.proofs.Common.{◌≡◌, ◌≢◌, ◌⊎◌, inl, inr, ℕ, ze
 use Rattle.std.proofs.Common.{subst, arith}
 use Rattle.run_laws.specs.Accounts.{FollowsWithin, ComesWithin}
 use Rattle.run_laws.specs.Runs.{Ending, Verdict, Exhausted, Wrong, Moment, Run, NeverWrong, Any, EndsAs, HasVerdictOf}
-use Rattle.run_laws.specs.Runs.{FollowsBy, Through}
+use Rattle.run_laws.specs.Runs.{FollowsBy}
 use Rattle.run_laws.specs.Machines.{Next, Go, Stop, Machine, and_then, steps, seen, run, OnlyAddsOutput}
 use Rattle.run_laws.specs.Meters.{Metered, unspent, charge, metered, each_one, Spends, OfRest}
-use Rattle.run_laws.proofs.Public.{within_of, within_trans, an_account_bounds_turns, metered_never_wrong}
-
-pub within_weaken : {A B V : Type 0} {K L K' L' : A → B → Type 0} {X : Run A V} {Y : Run B V}
-    → ((a : A) (b : B) → K a b → K' a b) → ((a : A) (b : B) → L a b → L' a b) → FollowsWithin K L X Y
-    → FollowsWithin K' L' X Y
-within_weaken {X = X} {Y = Y} k l f = record {
-  back =
-      λ i. let b = f.back i in
-      (b.0, (record { output = b.1.0.output; shown = k (X i).shown (Y b.0).shown b.1.0.shown }, b.1.1));
-  forth = λ i. let b = f.forth i in (b.0, l (X b.0).shown (Y i).shown b.1, b.2);
-}
+use Rattle.run_laws.proofs.Public.{within_of, within_trans, within_weaken, an_account_bounds_turns, metered_never_wrong}
 
 ends_so : {V : Type 0} (a b : Option (Ending V)) → a ≢ Some Wrong → a ≡ b → EndsAs a b
 ends_so None b never e = tt

@@ -1,15 +1,15 @@
 -- Where whole objects of a program fill the region of a run over words, storage is as it has to be in every memory that
 -- tells their words.
-use Rattle.std.proofs.Common.{◌≡◌, ◌⊎◌, inl, inr, ℕ, suc, ◌+◌, ◌*◌, ◌%◌, ◌<◌, ◌≤◌, Bool, true, false, cond, nat_eq}
+use Rattle.std.proofs.Common.{◌≡◌, ◌⊎◌, inl, inr, ℕ, suc, ◌+◌, ◌*◌, ◌%◌, ◌<◌, ◌≤◌, Bool, true, false}
 use Rattle.std.proofs.Common.{max, List, [], ◌∷◌, ◌++◌, length, replicate, Some, None, refl, sym, ap, ap₂, ◌∙◌, subst}
-use Rattle.std.proofs.Common.{append_assoc, append-nil, eqb-true, arith}
+use Rattle.std.proofs.Common.{append_assoc, append-nil, arith}
 use Rattle.std.specs.Prelude.{◌==◌, ◌&&◌, nat_le, if◌then◌else◌, option_and_then}
 use Rattle.grift_base.specs.Types.{TypeRows}
 use Rattle.machine_words.specs.Memory.{Memory, first_address, load_bytes}
 use Rattle.low_ir.specs.Run.{Setting}
 use Rattle.object_layout.specs.declared.headers.Header.{Header}
 use Rattle.object_layout.specs.declared.kinds.Kind.{Kind}
-use Rattle.object_layout.specs.declared.kinds.Kind.TheVariants.{Closure, Tuple, Boxed, Vector, Proxy, Dyn}
+use Rattle.object_layout.specs.declared.kinds.Kind.TheVariants.{Proxy, Dyn}
 use Rattle.object_layout.specs.declared.kinds.Kind.TheVariants.{Fail as FailObject, Inject as InjectObject}
 use Rattle.object_layout.specs.declared.kinds.Kind.TheVariants.{Project as ProjectObject}
 use Rattle.object_layout.specs.declared.kinds.Wanted.{Wanted}
@@ -21,7 +21,8 @@ use Rattle.object_layout.specs.Reports.{header_behind, is_proxy, is_some_proxy}
 use Rattle.object_layout.specs.Wholes.{Telling, header_at, height_of, coercion_height, height_behind, highest}
 use Rattle.object_layout.specs.Wholes.{AreWanted, Fills, HasHeight, IsAddress, IsNth, IsRow, IsWanted, IsWhole}
 use Rattle.object_layout.specs.Wholes.{StartsAt}
-use Rattle.object_layout.proofs.Public.{an_object_of_a_row_is_whole, fills_few, fills_same}
+use Rattle.object_layout.proofs.Public.{an_object_of_a_row_is_whole, fills_few, fills_same, number_of_kind}
+use Rattle.object_layout.proofs.Public.{is_the_proxy, free_wanted, free_no_proxy}
 use Rattle.coercion_norm.specs.declared.middles.MiddleKind.{MiddleKind}
 use Rattle.coercion_norm.specs.declared.middles.MiddleKind.TheVariants.{Fun as FunKind, Tup as TupKind}
 use Rattle.coercion_norm.specs.declared.middles.MiddleKind.TheVariants.{Ref as RefKind, Vec as VecKind}
@@ -29,7 +30,7 @@ use Rattle.coercion_norm.specs.Held.{Layout, There, HoldsType, TypesStand, heigh
 use Rattle.coercion_norm.specs.Objects.{Object, Fixed, Cell, bytes_of, bytes_of_all, header_of, object_at}
 use Rattle.coercion_norm.specs.ObjectsOfRows.{header, kind_number}
 use Rattle.coercion_norm.specs.StaticObjects.{middle_kind, header as told}
-use Rattle.coercion_norm.proofs.Public.{bytes_append, bytes_of_all_words, found_within, number_of_kind, object_kept}
+use Rattle.coercion_norm.proofs.Public.{bytes_append, bytes_of_all_words, found_within, object_kept}
 use Rattle.coercion_norm.proofs.Public.{told_header}
 use Rattle.rt_cast.specs.Objects.{HasWord, Holds, HoldsObject, HoldsWords}
 use Rattle.rt_cast.specs.States.{Heap, Filled, Placed}
@@ -37,7 +38,7 @@ use Rattle.rt_cast.specs.ToldRows.{telling}
 use Rattle.rt_cast.specs.WholeObjects.{CoercionWord, IdWord, ObjectWord, Highest, IsWhole as IsWholeObject, Wholes}
 use Rattle.rt_cast.specs.WholeObjects.{WholeFail, WholeMiddle, WholeInject, WholeProject, WholeProxy, WholeDyn}
 use Rattle.rt_cast.specs.WholeObjects.{WholeOther}
-use Rattle.rt_cast.proofs.Public.{none_some, same_some}
+use Rattle.rt_cast.proofs.Public.{same_some, holds_found}
 use Rattle.compile_driver.specs.Space.{Stored, Begins, BeginsType, AreStatic, Leads, LeadFrom, IsStored}
 use Rattle.compile_driver.proofs.Matching.{Match, found, starts}
 
@@ -48,13 +49,6 @@ middle_wanted FunKind count = refl
 middle_wanted TupKind count = refl
 middle_wanted RefKind count = refl
 middle_wanted VecKind count = refl
-
-free_wanted : (kind : Kind) (count : ℕ) → is_free kind ≡ true → wanted_words kind count ≡ []
-free_wanted Closure count e = refl
-free_wanted Tuple count e = refl
-free_wanted Boxed count e = refl
-free_wanted Vector count e = refl
-free_wanted kind count e = cc
 
 -- neither a value in Dyn nor a proxy
 record IsPlain (kind : Kind) : Type 0 where
@@ -73,17 +67,6 @@ free_plain kind free = record {
   no_proxy = λ e. let f : is_free Proxy ≡ true = subst (λ k. is_free k ≡ true) e free in cc;
 }
 
-free_no_proxy : (kind : Kind) → is_free kind ≡ true → (number_of kind == 2) ≡ false
-free_no_proxy Closure e = refl
-free_no_proxy Tuple e = refl
-free_no_proxy Boxed e = refl
-free_no_proxy Vector e = refl
-free_no_proxy kind e = cc
-
-is_the_proxy : (kind : Kind) → (number_of kind == 2) ≡ true → kind ≡ Proxy
-is_the_proxy Proxy e = refl
-is_the_proxy kind e = cc
-
 -- ---- objects and words
 
 some_room : (o : Object) → 8 ≤ bytes_of o
@@ -93,17 +76,6 @@ some_room (Cell word count) = omega arith
 head_held : (m : Memory) (at : ℕ) (o : Object) → HoldsObject m at o → HasWord m at (header_of o)
 head_held m at (Fixed word words) h = h.0
 head_held m at (Cell word count) h = h
-
-holds_found : (m : Memory) (from : ℕ) (os : List Object) (at : ℕ) (o : Object) → Holds m from os
-    → object_at os from at ≡ Some o → HoldsObject m at o
-holds_found m from [] at o h e = none_some e
-holds_found m from (x ∷ os) at o h e = by_test (holds_found m (from + bytes_of x) os at o h.1) (nat_eq at from) refl e
-  where
-    by_test : (object_at os (from + bytes_of x) at ≡ Some o → HoldsObject m at o) → (b : Bool) → nat_eq at from ≡ b
-        → cond b (Some x) (object_at os (from + bytes_of x) at) ≡ Some o → HoldsObject m at o
-    by_test ih true b k =
-        subst (λ n. HoldsObject m n o) (sym (eqb-true at from b)) (subst (HoldsObject m from) (same_some x o k) h.0)
-    by_test ih false b k = ih k
 
 holds_split : (m : Memory) (from : ℕ) (first : List Object) (o : Object) (rest : List Object)
     → Holds m from (first ++ o ∷ rest) → HoldsObject m (from + bytes_of_all first) o

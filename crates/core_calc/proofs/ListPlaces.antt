@@ -2,24 +2,13 @@
 use Rattle.std.proofs.Common.{◌≡◌, ℕ, zero, suc, List, [], ◌∷◌, ◌++◌, length, Option, Some, None, refl, sym, ap, ◌∙◌}
 use Rattle.std.proofs.Common.{arith, slice_get, inl, inr}
 use Rattle.std.specs.Prelude.{slice_set, replicate, ◌⊎◌}
+pub use Rattle.type_graph.proofs.Public.{none_is_not_some, same_some, get_kept, get_before_or_last}
 
 pub some_is_not_none : {A : Type 0} (a : A) → Some a ≡ None → ⊥
 some_is_not_none a e = cc
 
-pub none_is_not_some : {A : Type 0} (a : A) → None ≡ Some a → ⊥
-none_is_not_some a e = cc
-
-pub same_some : {A : Type 0} (a b : A) → Some a ≡ Some b → a ≡ b
-same_some a b e = cc
-
 pub both_some : {A : Type 0} (o : Option A) (a b : A) → o ≡ Some a → o ≡ Some b → a ≡ b
 both_some o a b e f = same_some a b (sym e ∙ f)
-
--- what stands at a place stands there still when more is put behind
-pub get_kept : {A : Type 0} (xs ys : List A) (k : ℕ) (a : A) → slice_get xs k ≡ Some a → slice_get (xs ++ ys) k ≡ Some a
-get_kept [] ys k a e = absurd (none_is_not_some a e)
-get_kept (x ∷ xs) ys zero a e = e
-get_kept (x ∷ xs) ys (suc k) a e = get_kept xs ys k a e
 
 -- what is put behind a list stands at its length
 pub get_last : {A : Type 0} (xs : List A) (a : A) (k : ℕ) → k ≡ length xs → slice_get (xs ++ a ∷ []) k ≡ Some a
@@ -27,19 +16,6 @@ get_last [] a zero e = refl
 get_last [] a (suc k) e = absurd (omega arith)
 get_last (x ∷ xs) a zero e = absurd (omega arith)
 get_last (x ∷ xs) a (suc k) e = get_last xs a k (omega arith)
-
--- with one more at the end, a place is one from before or the last
-pub get_before_or_last : {A : Type 0} (xs : List A) (a b : A) (k : ℕ) → slice_get (xs ++ a ∷ []) k ≡ Some b →
-    (slice_get xs k ≡ Some b) ⊎ ((k ≡ length xs) × (a ≡ b))
-get_before_or_last [] a b zero e = inr (refl, same_some a b e)
-get_before_or_last [] a b (suc k) e = absurd (none_is_not_some b e)
-get_before_or_last (x ∷ xs) a b zero e = inl e
-get_before_or_last (x ∷ xs) a b (suc k) e = next (get_before_or_last xs a b k e)
-  where
-    next : (slice_get xs k ≡ Some b) ⊎ ((k ≡ length xs) × (a ≡ b)) → (slice_get xs k ≡ Some b) ⊎
-        ((suc k ≡ suc (length xs)) × (a ≡ b))
-    next (inl e) = inl e
-    next (inr e) = inr (ap suc e.0, e.1)
 
 -- a list of the same length has something at each place where the other has
 pub get_within : {A B : Type 0} (xs : List A) (ys : List B) (k : ℕ) (a : A) → length xs ≡ length ys →

@@ -1,6 +1,6 @@
 -- What is known of the s-expressions that a text reads as: integers have 64 bits, and no more than 200 lists are open
 -- at once.
-use Rattle.std.proofs.Common.{◌≡◌, ◌+◌, ℕ, ℤ, pos, negsuc, max, Bool, true, false, List, refl, ap, arith}
+use Rattle.std.proofs.Common.{◌≡◌, ◌+◌, ℕ, ℤ, pos, negsuc, Bool, true, false, List, refl, ap, arith}
 use Rattle.std.proofs.Common.{subst}
 use Rattle.std.specs.Prelude.{◌^◌, if◌then◌else◌, bytes_eq, codes}
 use Rattle.std.specs.Str.Parse.{signed_digits_value}
@@ -21,19 +21,7 @@ use Rattle.surface_syntax.specs.declared.words.Mark.TheVariants.{Reserved, Free}
 use Rattle.surface_syntax.specs.Words.{mark_of}
 use Rattle.surface_syntax.specs.Marked.{Sexpr, Sexprs, number, truth_value, word, name, list, end, ◌▹◌, marked}
 use Rattle.surface_syntax.specs.Marked.{all_marked, marked_symbol}
-
--- how many lists are open at once
-abbrev mutual
-  pub brackets : Sexpr → ℕ
-  brackets (number p n) = 0
-  brackets (truth_value p b) = 0
-  brackets (word p w) = 0
-  brackets (name p x t) = 0
-  brackets (list p ds) = 1 + brackets_of ds
-
-  pub brackets_of : Sexprs → ℕ
-  brackets_of end = 0
-  brackets_of (s ▹ rest) = max (brackets s) (brackets_of rest)
+use Rattle.surface_syntax.proofs.Public.{brackets, brackets_of}
 
 -- each integer has 64 bits
 abbrev mutual

@@ -1,4 +1,4 @@
--- Codes that stand for one thing where procedures are written: one of two codes, a label that is blamed, and a trap.
+-- Names for what procedures are written with: a procedure, one of two codes, a label that is blamed, and a trap.
 use Rattle.std.specs.Prelude.{ℕ}
 use Rattle.grift_base.specs.declared.environment.TheConstants.{BLAME_CALL, TRAP_CALL}
 use Rattle.grift_base.specs.declared.verdicts.Trap.{Trap}
@@ -16,10 +16,10 @@ proc params words code = record { params = params; words = words; code = code }
 abbrev pub either : Cond → LowSource → LowSource → Code → Code → Code
 either cond a b one other = If cond a b one other Done
 
--- a label is blamed
+-- a label is blamed, by a call whose answers would go to words 4 and 5
 abbrev pub blame_code : LowSource → Code
 blame_code label = Environment BLAME_CALL label (Number 0) 4 5 (Return (Number 0))
 
--- the trap, by a call whose answer would go to these two words
+-- the trap, by a call whose answers would go to these two words
 abbrev pub trap_code : Trap → ℕ → ℕ → Code
 trap_code trap d e = Environment TRAP_CALL (Number (trap_number trap)) (Number 0) d e (Return (Number 0))

@@ -1,4 +1,5 @@
-// Code in front of other code.
+// Code in front of other code. `Err` is want of memory for the boxes and lists that the code is made of, and nothing
+// else: whether what is made may stand in a program, `LowProgram::is_closed` tells of the whole.
 
 ghost use Rattle.std.specs.Prelude.{◌≡◌, IfOk};
 ghost use Rattle.low_ir.specs.Procedures.{Set, Compute, Load, Build, Call, If, TailCall};
@@ -40,7 +41,8 @@ pub fn compute(
     Ok(LowCode::Compute(op, word, operands.0, operands.1, rest))
 }
 
-/// A word is loaded from an address and an offset in bytes, and then the rest is done.
+/// A word is loaded from an address and an offset in bytes, and then the rest is done. In a closed program the offset
+/// is below 2,048, which an instruction holds.
 pub fn load(
     alloc: Global,
     word: u32,
@@ -54,7 +56,7 @@ pub fn load(
     Ok(LowCode::Load(word, address, offset, rest))
 }
 
-/// An object of these words is built, and then the rest is done.
+/// An object of these words is built, and then the rest is done. In a closed program there are fewer than 256 of them.
 pub fn build(
     alloc: Global,
     word: u32,
@@ -122,7 +124,8 @@ pub fn either(
     choose(alloc, cond, operands, branches, LowCode::Done)
 }
 
-/// A label is blamed.
+/// The label of this number is blamed. The call of the environment doesn't go on; its answers would go to words 4 and
+/// 5, so a procedure with this code has six words at least.
 pub fn blame(alloc: Global, label: LowSource) -> Result<LowCode, OutOfMemory>
     ensures { IfOk result (λ code. code_of code ≡ blame_code label) }
 {
@@ -130,7 +133,7 @@ pub fn blame(alloc: Global, label: LowSource) -> Result<LowCode, OutOfMemory>
     Ok(LowCode::Environment(BLAME_CALL, label, Number(0), 4, 5, rest))
 }
 
-/// A trap, by a call whose answer would go to these two words.
+/// A trap, by a call of the environment that doesn't go on; its answers would go to these two words.
 pub fn trap(alloc: Global, trap: Trap, first: u32, second: u32) -> Result<LowCode, OutOfMemory>
     ensures { IfOk result (λ code. code_of code ≡ trap_code trap first second) }
 {

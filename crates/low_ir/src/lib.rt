@@ -3,7 +3,8 @@
 //!
 //! A procedure has numbered words of 64 bits and structured code: a branch has two codes, behind both of which goes on
 //! what stands last, and a loop is a tail call. The run in `specs` shows the region below the allocation word, the
-//! words asked for and the active procedures; a meter counts its turns.
+//! words asked for and the active procedures; a meter counts its turns. `codes` puts one step in front of a code, so
+//! that run-time procedures are written by names.
 #![tactic(auto)]
 
 mod closing;

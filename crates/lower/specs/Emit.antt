@@ -26,7 +26,7 @@ use Rattle.flat_ir.specs.declared.code.Operand.TheVariants.{Unit as UnitCase}
 use Rattle.flat_ir.specs.declared.code.Operation.{Operation}
 use Rattle.flat_ir.specs.declared.code.Operation.TheVariants.{Move, Prim, Cast, Tuple, Proj, ProjDyn}
 use Rattle.flat_ir.specs.Bodies.{Body, Give, Call, Choose, LetBody, LetGroup}
-use Rattle.object_layout.specs.Words.{count_unit, kind_mask, tag_bits, tag_mask}
+use Rattle.object_layout.specs.Words.{count_unit, kind_mask, tag_shift, tag_mask}
 use Rattle.rt_refs.specs.CellCodes.{asks_box, asks_element, asks_length}
 use Rattle.rt_refs.specs.Quotients.{asks_quotient, asks_remainder}
 use Rattle.lower.specs.declared.numbering.Shape.{Shape}
@@ -179,15 +179,15 @@ module _ (run : Served) where
   abbrev pub make_cast : Shape → ℕ → LowSource → ℕ → CastWay → Code → Code
   make_cast s d a number Called k = call_cast d a number k
   make_cast s d a number (IntoDyn tag) k =
-      Compute Sll (test_word s) a (Number tag_bits) (
-      Compute Sra (operand_word s 1) (Word (test_word s)) (Number tag_bits) (
+      Compute Sll (test_word s) a (Number tag_shift) (
+      Compute Sra (operand_word s 1) (Word (test_word s)) (Number tag_shift) (
       If Eq (Word (operand_word s 1)) a
       (Compute Plus d (Word (test_word s)) (Number (tag_number tag)) Done)
       (call_cast d a number Done) k))
   make_cast s d a number (OutOfDyn tag) k =
       Compute And (test_word s) a (Number tag_mask) (
       If Eq (Word (test_word s)) (Number (tag_number tag))
-      (Compute Sra d a (Number tag_bits) Done)
+      (Compute Sra d a (Number tag_shift) Done)
       (call_cast d a number Done) k)
 
   -- the value of an operation is put into a word

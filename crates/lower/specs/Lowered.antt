@@ -16,7 +16,7 @@ use Rattle.flat_ir.specs.Bodies.{Proc as FlatProc}
 use Rattle.flat_ir.specs.Levels.{levels}
 use Rattle.lower.specs.declared.numbering.Shape.{Shape}
 use Rattle.lower.specs.declared.served.Served.{Served}
-use Rattle.object_layout.specs.Words.{kind_mask, tag_bits, tag_mask, type_over_tag}
+use Rattle.object_layout.specs.Words.{kind_mask, tag_shift, tag_mask, type_over_tag}
 use Rattle.lower.specs.Emit.{ToCaller, emit}
 
 abbrev pub shape_of : FlatProc → Shape
@@ -61,7 +61,7 @@ open_object =
     Load 2 (Word 0) 16 Done)))
 
 abbrev pub open_small : Code
-open_small = Compute Add 1 (Word 1) (Number type_over_tag) (Compute Sra 2 (Word 0) (Number tag_bits) Done)
+open_small = Compute Add 1 (Word 1) (Number type_over_tag) (Compute Sra 2 (Word 0) (Number tag_shift) Done)
 
 -- the answer in word 0 is shown by its type
 abbrev pub show_by : TypeRow → Code

@@ -21,7 +21,7 @@ use low_ir::code::{LowCode, LowSource, LowSources, WordOp};
 use low_ir::programs::LowProc;
 use machine_words::conditions::Cond;
 use object_layout::kinds::Kind;
-use object_layout::words::{KIND_MASK, TAG_BITS, TAG_MASK, TYPE_OVER_TAG};
+use object_layout::words::{KIND_MASK, TAG_MASK, TAG_SHIFT, TYPE_OVER_TAG};
 use std::alloc::Global;
 use type_graph::rows::Row;
 
@@ -47,7 +47,7 @@ fn ends_if(
         (λ k. If Eq (Word 1) (Number (kind_number kept)) (ends (answer_kind_number kind) word) Done k)) }
 {
     let end = ends(alloc, kind, word)?;
-    let kept = Number(u64::from(kept.number()));
+    let kept = Number(kept.word());
     steps.push(Step::If(Cond::Eq, Word(1), kept, end, LowCode::Done))
 }
 
@@ -98,7 +98,7 @@ fn open_small(alloc: Global) -> Result<LowCode, OutOfMemory>
 {
     let mut steps = Steps::new(alloc);
     steps.push(Step::Compute(WordOp::Add, 1, Word(1), Number(TYPE_OVER_TAG)))?;
-    steps.push(Step::Compute(WordOp::Sra, 2, Word(0), Number(TAG_BITS)))?;
+    steps.push(Step::Compute(WordOp::Sra, 2, Word(0), Number(TAG_SHIFT)))?;
     steps.before(LowCode::Done)
 }
 

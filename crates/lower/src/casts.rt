@@ -21,7 +21,7 @@ use grift_base::places::TypeId;
 use low_ir::code::LowSource::{Number, Word};
 use low_ir::code::{LowCode, LowSource, WordOp};
 use machine_words::conditions::Cond;
-use object_layout::words::{TAG_BITS, TAG_MASK};
+use object_layout::words::{TAG_MASK, TAG_SHIFT};
 use std::alloc::Global;
 use type_graph::rows::Row;
 use type_graph::tables::TypeTable;
@@ -167,7 +167,7 @@ impl Emitter<'_> {
     {
         let shifted = self.shape.operand_word(TEST_PLACE)?;
         let back = self.shape.operand_word(1)?;
-        let bits = Number(TAG_BITS);
+        let bits = Number(TAG_SHIFT);
         let tagged = self.only(Step::Compute(
             WordOp::Add,
             d,
@@ -193,7 +193,7 @@ impl Emitter<'_> {
             (λ k. make_cast self.now.run.now self.now.shape d a number (OutOfDyn tag) k)) }
     {
         let found = self.shape.operand_word(TEST_PLACE)?;
-        let taken = self.only(Step::Compute(WordOp::Sra, d, a, Number(TAG_BITS)))?;
+        let taken = self.only(Step::Compute(WordOp::Sra, d, a, Number(TAG_SHIFT)))?;
         let called = self.only_call_cast(d, a, number)?;
         steps.push(Step::Compute(WordOp::And, found, a, Number(TAG_MASK)))?;
         steps.push(Step::If(

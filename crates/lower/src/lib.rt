@@ -1,4 +1,5 @@
-//! From first-order procedures to procedures over words, whatever run-time procedures serve them.
+//! From first-order procedures to procedures over words, whatever run-time procedures serve them; and what the
+//! procedures of calls, reads, writes and new vectors come to beside those of casts.
 #![tactic(auto)]
 
 mod answers;

@@ -44,7 +44,7 @@ pub fn header(kind: Kind, count: u64) -> Result<u64, OutOfMemory>
     ensures { IfOk result (λ word. word ≡ header (kind_number kind) count) }
 {
     if count <= u32::MAX as u64 {
-        Ok(u64::from(kind.number()) + COUNT_UNIT * count)
+        Ok(kind.word() + COUNT_UNIT * count)
     } else {
         Err(OutOfMemory)
     }
@@ -93,7 +93,7 @@ impl Emitter<'_> {
         let (one, other) = ways;
         steps.push(Step::Load(test, object, 0))?;
         steps.push(Step::Compute(WordOp::And, test, Word(test), Number(KIND_MASK)))?;
-        let kind = Number(u64::from(kind.number()));
+        let kind = Number(kind.word());
         steps.push(Step::If(Cond::Eq, Word(test), kind, one, other))
     }
 

@@ -1,11 +1,11 @@
 -- Two changes of memory that leave a row as it is: past its end, and in a word that says nothing of other objects.
-use Rattle.std.proofs.Common.{◌≡◌, ◌≢◌, ℕ, zero, suc, ◌+◌, ◌*◌, ◌≤◌, ◌<◌, List, [], ◌∷◌, length, Some, refl, sym, ap}
+use Rattle.std.proofs.Common.{◌≡◌, ◌≢◌, ℕ, zero, suc, ◌+◌, ◌*◌, ◌≤◌, ◌<◌, List, [], ◌∷◌, length, Some, sym, ap}
 use Rattle.std.proofs.Common.{◌∙◌, subst, arith, ◌⊎◌, inl, inr, true}
 use Rattle.std.proofs.lemmas.Bool.{eqb-true}
 use Rattle.std.proofs.lemmas.List.{length-replicate}
 use Rattle.object_layout.specs.declared.headers.Header.{Header}
 use Rattle.object_layout.specs.declared.kinds.Kind.{Kind}
-use Rattle.object_layout.specs.declared.kinds.Kind.TheVariants.{Closure, Proxy, Tuple, Boxed, Vector, Fun}
+use Rattle.object_layout.specs.declared.kinds.Kind.TheVariants.{Proxy, Fun}
 use Rattle.object_layout.specs.declared.kinds.Kind.TheVariants.{Tup, Ref, Vec, Inject, Project}
 use Rattle.object_layout.specs.declared.kinds.Wanted.{Wanted}
 use Rattle.object_layout.specs.declared.kinds.Wanted.TheVariants.{Anything, Target, Middle, Coercion, TypeAddress}
@@ -15,6 +15,7 @@ use Rattle.object_layout.specs.Wholes.{Telling, IsWanted, IsWhole, Fills, IsRow,
 use Rattle.object_layout.specs.Wholes.{PointFrom, PointsIntoItself, IsFreeWord}
 use Rattle.object_layout.proofs.Places.{nth_above, one_nth, inside_one, inside_no_start}
 use Rattle.object_layout.proofs.Changing.{IsIn, SameBehind, whole_same, fills_same, words_same}
+use Rattle.object_layout.proofs.KindLemmas.{free_wanted}
 
 -- the words that are wanted are among those that there are
 pub wanted_within : (kind : Kind) (count : ℕ) → allows_count kind count ≡ true →
@@ -67,13 +68,6 @@ point_at memory from headers p wanted w at (first ∷ rest) points told (inl n) 
 point_at memory from headers p wanted w at (first ∷ rest) points told (inr n) =
     point_at memory from headers p wanted w (at + 8) rest points.1 told n
 
-free_wants_nothing : (kind : Kind) (count : ℕ) → is_free kind ≡ true → wanted_words kind count ≡ []
-free_wants_nothing Closure count e = refl
-free_wants_nothing Tuple count e = refl
-free_wants_nothing Boxed count e = refl
-free_wants_nothing Vector count e = refl
-free_wants_nothing kind count e = cc
-
 -- an object of a row is whole
 pub an_object_of_a_row_is_whole : (memory : Telling) (area : Area) (end from : ℕ) (headers : List Header) (to place
     at : ℕ) (h : Header) →
@@ -121,7 +115,7 @@ module _ (memory other : Telling) (area : Area) (from : ℕ) (headers : List Hea
       sym w.kind_is ∙ ap (λ k. kind_of k.kind) (sym first.1) ∙ word.kind_is in
       let kind : word.kind ≡ w.kind = cc in
       let none : wanted_words w.kind h.count ≡ [] =
-      free_wants_nothing w.kind h.count (subst (λ k. is_free k ≡ true) kind word.free) in
+      free_wanted w.kind h.count (subst (λ k. is_free k ≡ true) kind word.free) in
       let nothing : length (wanted_words w.kind h.count) ≡ 0 = ap length none in
       omega arith
 

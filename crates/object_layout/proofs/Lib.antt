@@ -1,6 +1,7 @@
 pub mod Public
 mod Coercions
 mod Rows
+mod KindLemmas
 mod Reporting
 mod Places
 mod Changing

@@ -14,20 +14,20 @@ use Rattle.std.specs.Prelude.{ℕ, ◌^◌}
 abbrev pub kind_mask : ℕ
 kind_mask = 255
 
--- how many bits stand below the height
-abbrev pub height_bits : ℕ
-height_bits = 16
+-- the height, shifted by so many bits, stands in its place
+abbrev pub height_shift : ℕ
+height_shift = 16
 
 abbrev pub height_mask : ℕ
 height_mask = 65535
 
--- how many bits stand below the count
-abbrev pub count_bits : ℕ
-count_bits = 32
+-- the count, shifted by so many bits, stands in its place
+abbrev pub count_shift : ℕ
+count_shift = 32
 
 -- what a header gains with each word that is counted
 abbrev pub count_unit : ℕ
-count_unit = 2 ^ count_bits
+count_unit = 2 ^ count_shift
 
 -- ---- kinds that are a number apart
 
@@ -39,10 +39,11 @@ type_over_middle = 11
 abbrev pub type_over_tag : ℕ
 type_over_tag = 15
 
--- ---- words in Dyn: the lowest bits are the tag, and 0 where the word is the address of an object
+-- ---- words in Dyn: the lowest bits are the tag, and 0 where the word is the address of an object; what is kept
+-- beside the tag is shifted above it
 
-abbrev pub tag_bits : ℕ
-tag_bits = 3
+abbrev pub tag_shift : ℕ
+tag_shift = 3
 
 abbrev pub tag_mask : ℕ
 tag_mask = 7

@@ -4,10 +4,10 @@ ghost use Rattle.std.specs.Prelude.{◌≡◌};
 ghost use Rattle.object_layout.specs.DynWords.{dyn_of_int, dyn_of_bool, dyn_of_unit};
 ghost use Rattle.object_layout.specs.DynWords.{int_of_dyn, bool_of_dyn, is_unit_in_dyn};
 
-// The low bits of a word in Dyn are its tag.
-const TAG_BITS: u32 = 3;
+use crate::words::TAG_SHIFT;
 
-const TAGS: u64 = 8;
+// How many tags there are: what is kept beside one is so many times as large in a word.
+const TAGS: u64 = 1 << TAG_SHIFT;
 
 const INT_TAG: u64 = 1;
 
@@ -50,7 +50,7 @@ pub fn dyn_int(word: u64) -> Option<i64>
     ensures { result ≡ int_of_dyn word }
 {
     if word % TAGS == INT_TAG {
-        Some(word.cast_signed() >> TAG_BITS)
+        Some(word.cast_signed() >> TAG_SHIFT)
     } else {
         None
     }

@@ -5,6 +5,7 @@ ghost use Rattle.object_layout.specs.Kinds.{kind_of};
 ghost use Rattle.object_layout.specs.Headers.{packed, unpacked};
 
 use crate::kinds::Kind;
+use crate::words::{COUNT_SHIFT, HEIGHT_SHIFT};
 
 /// What the first word of an object says: the number of its kind, its height, and the number of words after it.
 #[derive(Clone, Copy, PartialEq, Eq, Debug)]
@@ -19,7 +20,9 @@ pub fn pack(header: Header) -> u64
     ensures word { result ≡ packed header }
     ensures unpacks { unpacked result ≡ Some header ↔ IsSome (kind_of header.kind) }
 {
-    u64::from(header.kind) + (u64::from(header.height) << 16) + (u64::from(header.count) << 32)
+    u64::from(header.kind)
+        + (u64::from(header.height) << HEIGHT_SHIFT)
+        + (u64::from(header.count) << COUNT_SHIFT)
 }
 
 /// The header of a word: none exactly where its lowest byte is the number of no kind, or the byte above it isn't 0.
@@ -34,7 +37,7 @@ pub fn unpack(word: u64) -> Option<Header>
     }
     Some(Header {
         kind,
-        height: (word / 65_536 % 65_536) as u16,
-        count: (word / (1 << 32)) as u32,
+        height: (word / (1 << HEIGHT_SHIFT) % 65_536) as u16,
+        count: (word / (1 << COUNT_SHIFT)) as u32,
     })
 }

@@ -96,6 +96,13 @@ impl Kind {
         }
     }
 
+    /// The number of the kind as a word, which is the header of no height and no words.
+    pub fn word(self) -> u64
+        ensures { result ≡ kind_number self }
+    {
+        u64::from(self.number())
+    }
+
     /// The kind of this number, if there is one.
     pub fn from_number(number: u8) -> Option<Kind>
         ensures { result ≡ kind_of number }

@@ -6,7 +6,7 @@ use Rattle.low_ir.specs.declared.code.LowSource.TheVariants.{Word, Number}
 use Rattle.low_ir.specs.declared.code.WordOp.TheVariants.{Add, And, Sll, Srl, Sub}
 use Rattle.low_ir.specs.Procedures.{Code, Set, Compute, Load, Store, Build, Return, TailCall, Proc}
 use Rattle.low_ir.specs.Codes.{proc, either, blame_code, trap_code}
-use Rattle.object_layout.specs.Words.{kind_mask, count_bits, word_shift}
+use Rattle.object_layout.specs.Words.{kind_mask, count_shift, word_shift}
 use Rattle.rt_refs.specs.CellCodes.{asks_box, asks_length}
 use Rattle.rt_refs.specs.FillCodes.{fill_loop, fill_proc}
 use Rattle.rt_refs.specs.Quotients.{arithmetic_procs}
@@ -71,7 +71,7 @@ module _ (own : ℕ) where
 abbrev pub in_vector : Code → Code
 in_vector rest =
     Load 4 (Word 1) 0 (
-    Compute Srl 4 (Word 4) (Number count_bits) (
+    Compute Srl 4 (Word 4) (Number count_shift) (
     either Ltu (Word 2) (Word 4)
     (Compute Sll 2 (Word 2) (Number word_shift) (Compute Add 2 (Word 2) (Word 1) rest)) (trap_code Index 4 5)))
 
@@ -81,7 +81,7 @@ read_proc unbox =
     proc 3 6 (
     either Eq (Word 0) (Number asks_box) (TailCall unbox (Word 1 ∷ Number 0 ∷ [])) (
     either Eq (Word 0) (Number asks_length)
-    (Load 4 (Word 1) 0 (Compute Srl 4 (Word 4) (Number count_bits) (Return (Word 4))))
+    (Load 4 (Word 1) 0 (Compute Srl 4 (Word 4) (Number count_shift) (Return (Word 4))))
     (in_vector (Load 2 (Word 2) 8 (Return (Word 2))))))
 
 -- takes what is written (a box or an element), an address, an index and a word

@@ -18,7 +18,7 @@ use low_ir::codes::{blame, build, compute, either, load, set, tail_call};
 use low_ir::programs::{LowProc, LowProcs};
 use lower::copies::push_copies;
 use machine_words::conditions::Cond;
-use object_layout::words::{COUNT_BITS, COUNT_UNIT, KIND_MASK, WORD_SHIFT};
+use object_layout::words::{COUNT_SHIFT, COUNT_UNIT, KIND_MASK, WORD_SHIFT};
 use rt_refs::cells::{ASKS_BOX, ASKS_LENGTH};
 use rt_refs::fills::{fill_loop, fill_proc};
 use rt_refs::procs::arithmetic_procs;
@@ -135,7 +135,7 @@ fn in_vector(alloc: Global, rest: LowCode) -> Result<LowCode, OutOfMemory>
     let inside = compute(alloc, WordOp::Sll, 2, (Word(2), Number(WORD_SHIFT)), rest)?;
     let branches = (inside, trap_index(alloc)?);
     let rest = either(alloc, Cond::Ltu, (Word(2), Word(4)), branches)?;
-    let rest = compute(alloc, WordOp::Srl, 4, (Word(4), Number(COUNT_BITS)), rest)?;
+    let rest = compute(alloc, WordOp::Srl, 4, (Word(4), Number(COUNT_SHIFT)), rest)?;
     load(alloc, 4, Word(1), 0, rest)
 }
 
@@ -146,7 +146,7 @@ fn read_proc(alloc: Global, unbox: u32) -> Result<LowProc, OutOfMemory>
     let element = load(alloc, 2, Word(2), 8, LowCode::Return(Word(2)))?;
     let element = in_vector(alloc, element)?;
     let count = LowCode::Return(Word(4));
-    let length = compute(alloc, WordOp::Srl, 4, (Word(4), Number(COUNT_BITS)), count)?;
+    let length = compute(alloc, WordOp::Srl, 4, (Word(4), Number(COUNT_SHIFT)), count)?;
     let length = load(alloc, 4, Word(1), 0, length)?;
     let vector = either(
         alloc,

@@ -1,6 +1,6 @@
 -- Sizes and bytes of an image.
 use Rattle.std.proofs.Common.{ℕ, zero, suc, ◌+◌, ◌-◌, ◌*◌, ◌%◌, ◌^◌, ◌<◌, ◌≤◌, ◌≡◌, Bool, true, false, List, []}
-use Rattle.std.proofs.Common.{◌∷◌, ◌++◌, length, refl, sym, ◌∙◌, ap, subst, arith, length-append}
+use Rattle.std.proofs.Common.{◌∷◌, ◌++◌, length, sym, ◌∙◌, ap, subst, arith, length-append}
 use Rattle.std.specs.Prelude.{flat_map, slice_index, ◌==◌, nat_lt, if◌then◌else◌}
 use Rattle.std.specs.Int.{byte_at, bytes_low_first}
 use Rattle.std.proofs.lemmas.List.{length-map}
@@ -12,12 +12,12 @@ use Rattle.machine_words.specs.Memory.{memory_of, first_address}
 use Rattle.rv_machine.specs.Image.{IsImage, statics_len, code_len, label_count, loaded_part, labels_of}
 use Rattle.rv_machine.proofs.Public.{length-labels_from}
 use Rattle.assembler.specs.Expansion.{insts_of, item_insts, insts_from, code_insts}
-use Rattle.assembler.specs.Imaging.{word_bytes, half_bytes, label_bytes, image_bytes, code_bytes, inst_words}
+use Rattle.assembler.specs.Imaging.{word_bytes, half_bytes, image_bytes, code_bytes, inst_words}
 use Rattle.assembler.specs.Imaging.{code_start}
 use Rattle.assembler.specs.Imaging.{AreSections}
 use Rattle.assembler.specs.Assembled.{IsImageOf}
 use Rattle.assembler.specs.Following.{image_memory}
-use Rattle.assembler.proofs.Public.{loaded_is, statics_long, code_long}
+use Rattle.assembler.proofs.Public.{loaded_is, statics_long, code_long, length_image}
 
 -- ---- sizes
 
@@ -40,23 +40,6 @@ all_few items start place (x ∷ xs) =
     let a = length-append (item_insts items start place x) (insts_from items start (suc place) xs) in
     let b : length (item_insts items start place x) ≤ 11 = few_insts _ _ _ x in
     let c = all_few items start (suc place) xs in omega arith
-
-length_labels : (labels : List Pos) → length (flat_map label_bytes labels) ≡ 8 * length labels
-length_labels [] = refl
-length_labels (label ∷ rest) =
-    let a = length-append (label_bytes label) (flat_map label_bytes rest) in
-    let b = length_labels rest in
-    let c : length (label_bytes label) ≡ 8 = refl in omega arith
-
-length_image : (statics code : List ℕ) (labels : List Pos)
-    → length (image_bytes statics code labels) ≡ 64 + length statics + length code + 8 * length labels
-length_image statics code labels =
-    omega (
-      arith,
-      length-append (statics ++ code) (flat_map label_bytes labels),
-      length-append statics code,
-      length_labels labels,
-    )
 
 -- ---- bytes
 

@@ -1,4 +1,5 @@
 mod slotted
+mod Items
 mod Names
 mod Renaming
 mod Dense

@@ -1,4 +1,5 @@
-//! Places of the virtual registers of a virtual code: real registers, and slots of frames.
+//! Real code of a virtual code: places for its virtual registers, which are real registers and slots of frames, the
+//! code with such places or with slots alone, and the images that come of it.
 #![tactic(auto)]
 
 pub mod apply;

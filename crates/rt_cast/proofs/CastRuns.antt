@@ -18,17 +18,13 @@ use Rattle.coercion_norm.specs.Composition.{coerce_to}
 use Rattle.coercion_norm.specs.Composition.{compose_to}
 use Rattle.coercion_norm.specs.Heights.{coercion_height, NoHigher, TypeNoHigher}
 use Rattle.coercion_norm.specs.Normal.{IsNormal, is_project}
+use Rattle.object_layout.proofs.Public.{small_number, free_no_proxy}
 use Rattle.coercion_norm.proofs.Public.{compose_height, coerce_height, compose_normal, coerce_normal, bound_from_height}
 use Rattle.coercion_norm.proofs.Public.{height_from_bound}
 use Rattle.rt_cast.specs.Costs.{compose_cost, cast_cost, cast_words, coerce_price}
 use Rattle.rt_cast.specs.Costs.{cast_price}
-use Rattle.object_layout.specs.declared.kinds.Kind.{Kind as ObjectKind}
-use Rattle.object_layout.specs.declared.kinds.Kind.TheVariants.{Closure, Proxy, Dyn, Tuple, Boxed, Vector, Fun, Tup}
-use Rattle.object_layout.specs.declared.kinds.Kind.TheVariants.{Ref, Vec, IntType, BoolType, UnitType, DynType}
-use Rattle.object_layout.specs.declared.kinds.Kind.TheVariants.{FunType, TupleType, RefType, VecType}
-use Rattle.object_layout.specs.declared.kinds.Kind.TheVariants.{Fail as FailObject, Inject as InjectObject}
-use Rattle.object_layout.specs.declared.kinds.Kind.TheVariants.{Project as ProjectObject}
-use Rattle.object_layout.specs.Kinds.{kind_number as number_of, is_free}
+use Rattle.object_layout.specs.declared.kinds.Kind.TheVariants.{Proxy, Dyn}
+use Rattle.object_layout.specs.Kinds.{kind_number as number_of}
 use Rattle.coercion_norm.specs.Objects.{Object, Fixed, header_of}
 use Rattle.coercion_norm.specs.Held.{Layout, There, Held}
 use Rattle.coercion_norm.specs.ObjectsOfRows.{header, kind_number}
@@ -80,53 +76,6 @@ use Rattle.std.specs.Prelude.{◌&&◌, ◌||◌, if◌then◌else◌}
 use Rattle.grift_base.specs.Types.{IntRow, BoolRow, UnitRow, DynRow, FunRow, TupleRow, RefRow, VectRow, is_dyn}
 use Rattle.rt_cast.proofs.Objects.{proxy_header, proxy_read, dyn_header, fail_header, inject_header, project_header}
 use Rattle.rt_cast.specs.ComposeCodes.{cast_place, coerce_place, compose_place}
-
-small_kind : (kind : ObjectKind) → number_of kind < 256
-small_kind Closure = omega arith
-small_kind Proxy = omega arith
-small_kind Dyn = omega arith
-small_kind Tuple = omega arith
-small_kind Boxed = omega arith
-small_kind Vector = omega arith
-small_kind FailObject = omega arith
-small_kind Fun = omega arith
-small_kind Tup = omega arith
-small_kind Ref = omega arith
-small_kind Vec = omega arith
-small_kind InjectObject = omega arith
-small_kind ProjectObject = omega arith
-small_kind IntType = omega arith
-small_kind BoolType = omega arith
-small_kind UnitType = omega arith
-small_kind DynType = omega arith
-small_kind FunType = omega arith
-small_kind TupleType = omega arith
-small_kind RefType = omega arith
-small_kind VecType = omega arith
-
--- a closure, a tuple, a box or a vector is no proxy
-free_no_proxy : (kind : ObjectKind) → is_free kind ≡ true → (number_of kind == 2) ≡ false
-free_no_proxy Closure e = refl
-free_no_proxy Proxy e = absurd (let z : ⊥ = cc in z)
-free_no_proxy Dyn e = refl
-free_no_proxy Tuple e = refl
-free_no_proxy Boxed e = refl
-free_no_proxy Vector e = refl
-free_no_proxy FailObject e = refl
-free_no_proxy Fun e = refl
-free_no_proxy Tup e = refl
-free_no_proxy Ref e = refl
-free_no_proxy Vec e = refl
-free_no_proxy InjectObject e = refl
-free_no_proxy ProjectObject e = refl
-free_no_proxy IntType e = refl
-free_no_proxy BoolType e = refl
-free_no_proxy UnitType e = refl
-free_no_proxy DynType e = refl
-free_no_proxy FunType e = refl
-free_no_proxy TupleType e = refl
-free_no_proxy RefType e = refl
-free_no_proxy VecType e = refl
 
 -- a row has its own head
 own_head : (row : TypeRow) → same_head row row ≡ true
@@ -380,7 +329,7 @@ module _ {V : Type 0} (walk : Walk V) (low : walk.l.tallest ≤ 65534) (A : Type
       s.head (subst (λ m. WordThere walk h m (header_of s.object)) (zero_more wv) z)) refl
       (computes walk objects fine (header (number_of s.kind) 0 s.count) kind_mask (number_of s.kind) refl refl
       (kind_read (number_of s.kind) 0
-      s.count (small_kind s.kind)) refl
+      s.count (small_number s.kind)) refl
       (if_false walk objects fine (number_of s.kind) 2 refl refl (free_no_proxy s.kind s.free)
       (proxied a kind cs nc lc objects objects (grows_not objects) h fine waiting 10 _ _ (Word 0) (Word 1) wv wc refl
       refl refl hv hc go))))))))

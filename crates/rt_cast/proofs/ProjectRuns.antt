@@ -28,7 +28,7 @@ use Rattle.rt_cast.specs.Costs.{tuple_cost, project_cost}
 use Rattle.rt_cast.specs.LightCasts.{cast_words_of, cast_price_of}
 use Rattle.rt_cast.specs.PartCosts.{of_cast, of_part, dyn_part_words, dyn_part_price}
 use Rattle.coercion_norm.specs.Objects.{Object, Fixed}
-use Rattle.coercion_norm.specs.Held.{There, Held, AreHeld, HoldsType, rows_in, height_in}
+use Rattle.coercion_norm.specs.Held.{Layout, There, Held, AreHeld, HoldsType, rows_in, height_in}
 use Rattle.coercion_norm.specs.ObjectsOfRows.{header, type_kind}
 use Rattle.rt_cast.specs.WholeObjects.{IsSolid}
 use Rattle.rt_cast.specs.CastCodes.{project_code, project_dyn, project_dyn_object, project_dyn_part, project_blame}
@@ -185,6 +185,15 @@ part_normal rows NoCoercions k d h e = none_some e
 part_normal rows (CoercionThen c cs) zero d h e = subst (IsNormal rows) (same_some c d e) h.0
 part_normal rows (CoercionThen c cs) (suc k) d h e = part_normal rows cs k d h.1 e
 
+-- where a coercion is held, each of its parts is
+pub part_held : (l : Layout) (objects : List Object) (cs : Coercions) (ws : List ℕ) (k : ℕ) (d : Coercion)
+    → AreHeld l objects cs ws → part_at cs k ≡ Some d → (w : ℕ) × (slice_get ws k ≡ Some w) × Held l objects d w
+part_held l objects NoCoercions ws k d h e = none_some e
+part_held l objects (CoercionThen c cs) [] k d h e = absurd h
+part_held l objects (CoercionThen c cs) (w ∷ ws) zero d h e =
+    (w, refl, subst (λ x. Held l objects x w) (same_some c d e) h.0)
+part_held l objects (CoercionThen c cs) (w ∷ ws) (suc k) d h e = part_held l objects cs ws k d h.1 e
+
 module _ {V : Type 0} (walk : Walk V) (low : walk.l.tallest ≤ 65534) (A : Type 0)
     (IsHeld : List Object → A → ℕ → Type 0)
     (still : (old new : List Object) → Grows old new → (a : A) (w : ℕ) → IsHeld old a w → IsHeld new a w)
@@ -204,15 +213,6 @@ module _ {V : Type 0} (walk : Walk V) (low : walk.l.tallest ≤ 65534) (A : Type
 
   abbrev n : ℕ
   n = walk.l.tallest
-
-  part_held : (objects : List Object) (cs : Coercions) (ws : List ℕ) (k : ℕ) (d : Coercion)
-      → AreHeld walk.l objects cs ws → part_at cs k ≡ Some d
-      → (w : ℕ) × (slice_get ws k ≡ Some w) × Held walk.l objects d w
-  part_held objects NoCoercions ws k d h e = none_some e
-  part_held objects (CoercionThen c cs) [] k d h e = absurd h
-  part_held objects (CoercionThen c cs) (w ∷ ws) zero d h e =
-      (w, refl, subst (λ x. Held walk.l objects x w) (same_some c d e) h.0)
-  part_held objects (CoercionThen c cs) (w ∷ ws) (suc k) d h e = part_held objects cs ws k d h.1 e
 
   part_carried : (objects : List Object) (xs : List (Merged A)) (ws : List ℕ) (k : ℕ) (x : Merged A)
       → AreCarried walk.l IsHeld objects xs ws → slice_get xs k ≡ Some x
@@ -309,7 +309,7 @@ module _ {V : Type 0} (walk : Walk V) (low : walk.l.tallest ≤ 65534) (A : Type
             low = let z = part_in (height_in walk.l) ps k d at in let y = lc.low in omega (arith, z, y);
           } in
           let p = part_there objects tuples a hv.0 k x hv.3 f in
-          let q = part_held objects ps hc.0 k d hc.2 at in
+          let q = part_held walk.l objects ps hc.0 k d hc.2 at in
           let head4 = tuple_header (length p.ws) in
           let head10 = header 10 (coercion_height (height_in walk.l) (Middle TupKind ps)) (length hc.0) in
           let w = word_there walk objects h fine hv.0 head4 p.ws p.there (suc k) p.word (hv.0 + 8 * k + 8) p.got

@@ -28,6 +28,7 @@ pub use Rattle.rt_cast.proofs.Objects.{proxy_read, dyn_header}
 pub use Rattle.rt_cast.proofs.HeaderNumbers.{lt_true, lt_false, eq_true, eq_false, kind_read, count_read}
 -- the call of cast, whose decisions the merged mode makes, and what is held and carried still behind it:
 pub use Rattle.rt_cast.proofs.Middles.{held_still}
+pub use Rattle.rt_cast.proofs.ProjectRuns.{part_held}
 pub use Rattle.rt_cast.proofs.CastCases.{apply}
 pub use Rattle.rt_cast.proofs.CastRuns.{GoesOn, no_higher, whole_above, carried_still, by_cast, by_either}
 pub use Rattle.rt_cast.proofs.CastRuns.{words_within, price_within}

@@ -13,7 +13,8 @@ use Rattle.coercion_norm.specs.declared.middles.MiddleKind.TheVariants.{Fun as F
 use Rattle.coercion_norm.specs.declared.middles.MiddleKind.TheVariants.{Ref as RefKind, Vec as VecKind}
 use Rattle.coercion_norm.specs.Nodes.{KindHasWidth}
 use Rattle.coercion_norm.specs.StaticObjects.{middle_kind, type_kind as kind_of_type, header as told}
-use Rattle.coercion_norm.proofs.Public.{told_header, told_kind, number_of_kind}
+use Rattle.object_layout.proofs.Public.{number_of_kind, free_wanted, free_target, free_stands}
+use Rattle.coercion_norm.proofs.Public.{told_header, told_kind}
 use Rattle.object_layout.specs.declared.headers.Header.{Header}
 use Rattle.object_layout.specs.declared.kinds.Kind.{Kind as ObjectKind}
 use Rattle.object_layout.specs.declared.kinds.Kind.TheVariants.{Closure, Proxy, Dyn, Tuple, Boxed, Vector}
@@ -41,34 +42,12 @@ use Rattle.coercion_norm.proofs.Public.{found_within, object_kept, bytes_append}
 use Rattle.rt_cast.proofs.Objects.{holds_found}
 use Rattle.rt_cast.proofs.Objects.{proxy_header, dyn_header, fail_header, inject_header, project_header}
 
-free_target : (kind : ObjectKind) → is_free kind ≡ true → is_target kind ≡ true
-free_target Closure e = refl
-free_target Tuple e = refl
-free_target Boxed e = refl
-free_target Vector e = refl
-free_target _ e = absurd (let z : ⊥ = cc in z)
-
--- the words of a closure, a tuple, a box or a vector say nothing of other objects
-free_wanted : (kind : ObjectKind) (count : ℕ) → is_free kind ≡ true → wanted_words kind count ≡ []
-free_wanted Closure count e = refl
-free_wanted Tuple count e = refl
-free_wanted Boxed count e = refl
-free_wanted Vector count e = refl
-free_wanted _ count e = absurd (let z : ⊥ = cc in z)
-
 free_high : (kind : ObjectKind) (y : ℕ) → is_free kind ≡ true → HasHeight kind 0 y
 free_high Closure y e = tt
 free_high Tuple y e = tt
 free_high Boxed y e = tt
 free_high Vector y e = tt
 free_high _ y e = absurd (let z : ⊥ = cc in z)
-
-free_stands : (kind : ObjectKind) → is_free kind ≡ true → is_type kind ≡ false
-free_stands Closure e = refl
-free_stands Tuple e = refl
-free_stands Boxed e = refl
-free_stands Vector e = refl
-free_stands _ e = absurd (let z : ⊥ = cc in z)
 
 type_is : (row : TypeRow) → is_type (kind_of_type row) ≡ true
 type_is IntRow = refl

@@ -1,5 +1,5 @@
 -- The code of cast: word 0 is a value, word 1 a coercion; and of project. Which words objects have stands in
--- `Words.antt`.
+-- `Words.antt` of object_layout.
 use Rattle.std.specs.Prelude.{ℕ, [], ◌∷◌}
 use Rattle.machine_words.specs.declared.conditions.Cond.TheVariants.{Eq, Ltu}
 use Rattle.object_layout.specs.declared.kinds.Kind.TheVariants.{Proxy, Dyn, Fail, Inject, Project, DynType, TupleType}
@@ -8,7 +8,7 @@ use Rattle.low_ir.specs.declared.code.LowSource.TheVariants.{Word, Number}
 use Rattle.low_ir.specs.declared.code.WordOp.TheVariants.{Add, Sub, And, Sll, Srl, Sra}
 use Rattle.low_ir.specs.Procedures.{Code, Compute, Load, Build, Call, Return, TailCall}
 use Rattle.coercion_norm.specs.ObjectsOfRows.{header}
-use Rattle.object_layout.specs.Words.{kind_mask, count_bits, type_over_tag, tag_bits, tag_mask, word_shift}
+use Rattle.object_layout.specs.Words.{kind_mask, count_shift, type_over_tag, tag_shift, tag_mask, word_shift}
 use Rattle.low_ir.specs.Codes.{either, blame_code}
 use Rattle.rt_cast.specs.ComposeCodes.{coerce, compose, cast, project}
 
@@ -21,8 +21,8 @@ dyn_object = Build 7 (Number (header (kind_number Dyn) 0 2) ∷ Word 8 ∷ Word 
 -- an integer, a truth value or unit stands behind its tag, where its four upper bits are alike
 abbrev pub dyn_base : Code
 dyn_base =
-    Compute Sll 7 (Word 9) (Number tag_bits) (
-    Compute Sra 5 (Word 7) (Number tag_bits) (
+    Compute Sll 7 (Word 9) (Number tag_shift) (
+    Compute Sra 5 (Word 7) (Number tag_shift) (
     either Eq (Word 5) (Word 9) (
     Compute Sub 6 (Word 6) (Number type_over_tag) (
     Compute Add 7 (Word 7) (Word 6) (Return (Word 7)))) dyn_object))
@@ -55,7 +55,7 @@ module _ (first : ℕ) where
       Compute And 5 (Word 5) (Number kind_mask) (
       Compute Add 4 (Word 4) (Number type_over_tag) (
       either Eq (Word 4) (Word 5) (
-      Compute Sra 5 (Word 0) (Number tag_bits) (
+      Compute Sra 5 (Word 0) (Number tag_shift) (
       Load 9 (Word 1) 24 (
       TailCall (cast first) (Word 5 ∷ Word 9 ∷ [])))) (
       Load 7 (Word 1) 16 (blame_code (Word 7)))))))
@@ -126,7 +126,7 @@ module _ (first : ℕ) where
       Load 5 (Word 0) 16 (
       Load 6 (Word 4) 0 (
       Compute And 7 (Word 6) (Number kind_mask) (
-      Compute Srl 6 (Word 6) (Number count_bits) (
+      Compute Srl 6 (Word 6) (Number count_shift) (
       either Eq (Word 7) (Number (kind_number TupleType)) (
       either Ltu (Word 1) (Word 6) project_dyn_part project_blame
       ) project_blame)))))

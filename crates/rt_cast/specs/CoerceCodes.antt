@@ -7,7 +7,7 @@ use Rattle.low_ir.specs.declared.code.LowSource.TheVariants.{Word, Number}
 use Rattle.low_ir.specs.declared.code.WordOp.TheVariants.{And, Sub, Srl}
 use Rattle.low_ir.specs.Procedures.{Code, Compute, Load, Build, Call, Return, TailCall}
 use Rattle.coercion_norm.specs.ObjectsOfRows.{header}
-use Rattle.object_layout.specs.Words.{kind_mask, count_bits, type_over_middle}
+use Rattle.object_layout.specs.Words.{kind_mask, count_shift, type_over_middle}
 use Rattle.rt_cast.specs.PartCodes.{put_header, pick}
 use Rattle.low_ir.specs.Codes.{either}
 use Rattle.rt_cast.specs.ComposeCodes.{raise, pair, coerce_of}
@@ -30,8 +30,8 @@ module _ (first : ℕ) where
 
   abbrev pub coerce_heads : Code
   coerce_heads =
-      Compute Srl 7 (Word 3) (Number count_bits) (
-      Compute Srl 8 (Word 5) (Number count_bits) (
+      Compute Srl 7 (Word 3) (Number count_shift) (
+      Compute Srl 8 (Word 5) (Number count_shift) (
       either Eq (Word 4) (Word 6) (either Eq (Word 7) (Word 8) coerce_alike coerce_fail) coerce_fail))
 
   abbrev pub coerce_from_dyn : Code

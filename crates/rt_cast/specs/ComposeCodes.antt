@@ -1,5 +1,5 @@
 -- The numbers of the procedures, and the code of compose: words 0 and 1 are two coercions. Which words objects have
--- stands in `Words.antt`.
+-- stands in `Words.antt` of object_layout.
 use Rattle.std.specs.Prelude.{ℕ, ◌+◌, [], ◌∷◌}
 use Rattle.machine_words.specs.declared.conditions.Cond.TheVariants.{Eq, Ltu}
 use Rattle.object_layout.specs.declared.kinds.Kind.TheVariants.{Fail, Inject, Project}
@@ -8,7 +8,7 @@ use Rattle.low_ir.specs.declared.code.LowSource.TheVariants.{Word, Number}
 use Rattle.low_ir.specs.declared.code.WordOp.TheVariants.{And, Srl}
 use Rattle.low_ir.specs.Procedures.{Code, Compute, Load, Build, Call, Return, TailCall}
 use Rattle.coercion_norm.specs.ObjectsOfRows.{header}
-use Rattle.object_layout.specs.Words.{kind_mask, count_bits}
+use Rattle.object_layout.specs.Words.{kind_mask, count_shift}
 use Rattle.rt_cast.specs.PartCodes.{put_header, pick}
 use Rattle.low_ir.specs.Codes.{either}
 
@@ -131,8 +131,8 @@ module _ (first : ℕ) where
   -- two middles of one kind
   abbrev pub compose_both : Code
   compose_both =
-      Compute Srl 6 (Word 2) (Number count_bits) (
-      Compute Srl 7 (Word 4) (Number count_bits) (
+      Compute Srl 6 (Word 2) (Number count_shift) (
+      Compute Srl 7 (Word 4) (Number count_shift) (
       either Ltu (Word 6) (Word 7) (
       pick 6 8 middle_of (Word 0 ∷ Word 1 ∷ Word 3 ∷ Word 6 ∷ Number 0 ∷ [])
       ) (

@@ -8,18 +8,18 @@ use Rattle.low_ir.specs.declared.code.LowSource.TheVariants.{Word, Number}
 use Rattle.low_ir.specs.declared.code.WordOp.TheVariants.{Add, And, Sll, Srl, Sltu}
 use Rattle.low_ir.specs.Procedures.{Code, Set, Compute, Load, Build, Call, Return, TailCall}
 use Rattle.low_ir.specs.Codes.{either}
-use Rattle.object_layout.specs.Words.{kind_mask, height_bits, height_mask, count_unit}
+use Rattle.object_layout.specs.Words.{kind_mask, height_shift, height_mask, count_unit}
 
 -- the header of an object with the height that a word holds, put into the word
 abbrev pub put_header : ℕ → ℕ → Code → Code
-put_header d low rest = Compute Sll d (Word d) (Number height_bits) (Compute Add d (Word d) (Number low) rest)
+put_header d low rest = Compute Sll d (Word d) (Number height_shift) (Compute Add d (Word d) (Number low) rest)
 
 -- words 0 and 1 are a height, and an object or 0: the greater of the height and the object's
 abbrev pub raise_code : Code
 raise_code =
     either Eq (Word 1) (Number 0) (Return (Word 0)) (
     Load 2 (Word 1) 0 (
-    Compute Srl 2 (Word 2) (Number height_bits) (
+    Compute Srl 2 (Word 2) (Number height_shift) (
     Compute And 2 (Word 2) (Number height_mask) (
     either Ltu (Word 0) (Word 2) (Return (Word 2)) (Return (Word 0))))))
 
@@ -45,7 +45,7 @@ abbrev pub finish_code : ℕ → Code
 finish_code total =
     either Eq (Word 6) (Number 0) (Return (Number 0)) (
     Compute Add 5 (Word 5) (Number 1) (
-    Compute Sll 5 (Word 5) (Number height_bits) (
+    Compute Sll 5 (Word 5) (Number height_shift) (
     Compute Add 5 (Word 5) (Word 2) (
     Compute Add 5 (Word 5) (Number (total * count_unit)) (
     Build 7 (Word 5 ∷ results total 0) (Return (Word 7)))))))

@@ -17,7 +17,9 @@ use low_ir::codes::{blame, build, call, compute, either, load, tail_call};
 use low_ir::programs::LowProc;
 use machine_words::conditions::Cond;
 use object_layout::kinds::Kind;
-use object_layout::words::{COUNT_BITS, KIND_MASK, TAG_BITS, TAG_MASK, TYPE_OVER_TAG, WORD_SHIFT};
+use object_layout::words::{
+    COUNT_SHIFT, KIND_MASK, TAG_MASK, TAG_SHIFT, TYPE_OVER_TAG, WORD_SHIFT,
+};
 use std::alloc::Global;
 
 // A value in Dyn as an object: word 8 is the type that it keeps, word 9 the value.
@@ -43,8 +45,8 @@ fn dyn_base(alloc: Global) -> Result<LowCode, OutOfMemory>
     )?;
     let branches = (rest, dyn_object(alloc)?);
     let rest = either(alloc, Cond::Eq, (Word(5), Word(9)), branches)?;
-    let rest = compute(alloc, WordOp::Sra, 5, (Word(7), Number(TAG_BITS)), rest)?;
-    compute(alloc, WordOp::Sll, 7, (Word(9), Number(TAG_BITS)), rest)
+    let rest = compute(alloc, WordOp::Sra, 5, (Word(7), Number(TAG_SHIFT)), rest)?;
+    compute(alloc, WordOp::Sll, 7, (Word(9), Number(TAG_SHIFT)), rest)
 }
 
 // A value goes into Dyn; the kinds of types whose values have a tag come before that of Dyn.
@@ -83,7 +85,7 @@ fn project_small(alloc: Global, first: u32) -> Result<LowCode, OutOfMemory>
     let cast = CastProc::Cast.number(first);
     let rest = tail_call(alloc, cast, &[Word(5), Word(9)])?;
     let rest = load(alloc, 9, Word(1), 24, rest)?;
-    let same = compute(alloc, WordOp::Sra, 5, (Word(0), Number(TAG_BITS)), rest)?;
+    let same = compute(alloc, WordOp::Sra, 5, (Word(0), Number(TAG_SHIFT)), rest)?;
     let other = load(alloc, 7, Word(1), 16, blame(alloc, Word(7))?)?;
     let rest = either(alloc, Cond::Eq, (Word(4), Word(5)), (same, other))?;
     let rest = compute(
@@ -214,7 +216,7 @@ fn project_dyn_object(alloc: Global, first: u32) -> Result<LowCode, OutOfMemory>
     let rest = either(alloc, Cond::Ltu, (Word(1), Word(6)), branches)?;
     let branches = (rest, blame(alloc, Word(3))?);
     let rest = either(alloc, Cond::Eq, (Word(7), kind(Kind::TupleType)), branches)?;
-    let rest = compute(alloc, WordOp::Srl, 6, (Word(6), Number(COUNT_BITS)), rest)?;
+    let rest = compute(alloc, WordOp::Srl, 6, (Word(6), Number(COUNT_SHIFT)), rest)?;
     let rest = compute(alloc, WordOp::And, 7, (Word(6), Number(KIND_MASK)), rest)?;
     let rest = load(alloc, 6, Word(4), 0, rest)?;
     let rest = load(alloc, 5, Word(0), 16, rest)?;

@@ -1,4 +1,4 @@
-// Code in front of other code, beside what `low_ir::codes` has.
+// The header of an object that is made, in front of other code; the other steps are those of `low_ir::codes`.
 
 ghost use Rattle.std.specs.Prelude.{◌≡◌, IfOk};
 ghost use Rattle.low_ir.specs.Views.{code_of};
@@ -8,7 +8,7 @@ use grift_base::lists::OutOfMemory;
 use low_ir::code::LowSource::{Number, Word};
 use low_ir::code::{LowCode, WordOp};
 use low_ir::codes::compute;
-use object_layout::words::HEIGHT_BITS;
+use object_layout::words::HEIGHT_SHIFT;
 use std::alloc::Global;
 
 /// A word becomes the header of an object, whose height it was; the header is told without its height.
@@ -25,7 +25,7 @@ pub fn put_header(
         alloc,
         WordOp::Sll,
         word,
-        (Word(word), Number(HEIGHT_BITS)),
+        (Word(word), Number(HEIGHT_SHIFT)),
         rest,
     )
 }

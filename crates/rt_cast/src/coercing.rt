@@ -17,7 +17,7 @@ use low_ir::codes::{build, call, compute, either, load, tail_call};
 use low_ir::programs::LowProc;
 use machine_words::conditions::Cond;
 use object_layout::kinds::Kind;
-use object_layout::words::{COUNT_BITS, KIND_MASK, TYPE_OVER_MIDDLE};
+use object_layout::words::{COUNT_SHIFT, KIND_MASK, TYPE_OVER_MIDDLE};
 use std::alloc::Global;
 
 // A failure with the label.
@@ -61,8 +61,8 @@ fn coerce_heads(alloc: Global, first: u32) -> Result<LowCode, OutOfMemory>
     let rest = either(alloc, Cond::Eq, (Word(7), Word(8)), branches)?;
     let branches = (rest, coerce_fail(alloc)?);
     let rest = either(alloc, Cond::Eq, (Word(4), Word(6)), branches)?;
-    let rest = compute(alloc, WordOp::Srl, 8, (Word(5), Number(COUNT_BITS)), rest)?;
-    compute(alloc, WordOp::Srl, 7, (Word(3), Number(COUNT_BITS)), rest)
+    let rest = compute(alloc, WordOp::Srl, 8, (Word(5), Number(COUNT_SHIFT)), rest)?;
+    compute(alloc, WordOp::Srl, 7, (Word(3), Number(COUNT_SHIFT)), rest)
 }
 
 // From Dyn.

@@ -17,7 +17,7 @@ use low_ir::codes::{build, call, compute, either, load, tail_call};
 use low_ir::programs::LowProc;
 use machine_words::conditions::Cond;
 use object_layout::kinds::Kind;
-use object_layout::words::{COUNT_BITS, KIND_MASK};
+use object_layout::words::{COUNT_SHIFT, KIND_MASK};
 use std::alloc::Global;
 
 // A projection first.
@@ -87,8 +87,8 @@ fn compose_both(alloc: Global, first: u32) -> Result<LowCode, OutOfMemory>
         pick(alloc, 7, MIDDLES, first, &words)?,
     );
     let rest = either(alloc, Cond::Ltu, (Word(6), Word(7)), branches)?;
-    let rest = compute(alloc, WordOp::Srl, 7, (Word(4), Number(COUNT_BITS)), rest)?;
-    compute(alloc, WordOp::Srl, 6, (Word(2), Number(COUNT_BITS)), rest)
+    let rest = compute(alloc, WordOp::Srl, 7, (Word(4), Number(COUNT_SHIFT)), rest)?;
+    compute(alloc, WordOp::Srl, 6, (Word(2), Number(COUNT_SHIFT)), rest)
 }
 
 // A middle first, with the kind of the second.

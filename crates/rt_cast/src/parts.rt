@@ -19,7 +19,7 @@ use low_ir::codes::{build, call, compute, either, load, set, tail_call};
 use low_ir::programs::LowProc;
 use machine_words::conditions::Cond;
 use object_layout::kinds::Kind;
-use object_layout::words::{COUNT_UNIT, HEIGHT_BITS, HEIGHT_MASK, KIND_MASK};
+use object_layout::words::{COUNT_UNIT, HEIGHT_MASK, HEIGHT_SHIFT, KIND_MASK};
 use std::alloc::Global;
 
 /// The greater of a height and an object's, which stand in words 0 and 1.
@@ -29,7 +29,7 @@ pub fn raise_proc(alloc: Global) -> Result<LowProc, OutOfMemory>
     let ends = (LowCode::Return(Word(2)), LowCode::Return(Word(0)));
     let rest = either(alloc, Cond::Ltu, (Word(0), Word(2)), ends)?;
     let rest = compute(alloc, WordOp::And, 2, (Word(2), Number(HEIGHT_MASK)), rest)?;
-    let rest = compute(alloc, WordOp::Srl, 2, (Word(2), Number(HEIGHT_BITS)), rest)?;
+    let rest = compute(alloc, WordOp::Srl, 2, (Word(2), Number(HEIGHT_SHIFT)), rest)?;
     let rest = load(alloc, 2, Word(1), 0, rest)?;
     let branches = (LowCode::Return(Word(0)), rest);
     let code = either(alloc, Cond::Eq, (Word(1), Number(0)), branches)?;
@@ -80,7 +80,7 @@ fn finish_code(alloc: Global, total: u32) -> Result<LowCode, OutOfMemory>
     let count = u64::from(total) * COUNT_UNIT;
     let rest = compute(alloc, WordOp::Add, 5, (Word(5), Number(count)), rest)?;
     let rest = compute(alloc, WordOp::Add, 5, (Word(5), Word(2)), rest)?;
-    let rest = compute(alloc, WordOp::Sll, 5, (Word(5), Number(HEIGHT_BITS)), rest)?;
+    let rest = compute(alloc, WordOp::Sll, 5, (Word(5), Number(HEIGHT_SHIFT)), rest)?;
     let rest = compute(alloc, WordOp::Add, 5, (Word(5), Number(1)), rest)?;
     let branches = (LowCode::Return(Number(0)), rest);
     either(alloc, Cond::Eq, (Word(6), Number(0)), branches)

@@ -13,7 +13,7 @@ use object_layout::kinds::Kind;
 pub fn kind(kind: Kind) -> LowSource
     ensures { result ≡ NumberCase (kind_number kind) }
 {
-    Number(u64::from(kind.number()))
+    Number(kind.word())
 }
 
 /// The header of an object of this kind, of height 0 and of so many words.

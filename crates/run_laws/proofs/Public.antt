@@ -28,7 +28,7 @@ pub use Rattle.run_laws.proofs.Turns.{bounded_spending_bounds_turns-ends, bounde
 pub use Rattle.run_laws.proofs.Lockstep.{Alone, Both, Over, Lockstep, paid, charged, lockstep_follows}
 pub use Rattle.run_laws.proofs.Rounds.{Along, run_along, mid_along, along_then, Between, Midway, Paths, Round}
 pub use Rattle.run_laws.proofs.Rounds.{LastRound, WrongRound, Goes, goes_after, goes_later, rounds_follow}
-pub use Rattle.run_laws.proofs.Within.{within_of, within_trans, within_back}
+pub use Rattle.run_laws.proofs.Within.{within_of, within_weaken, within_trans, within_back}
 pub use Rattle.run_laws.proofs.Turns.{an_account_bounds_turns}
 pub use Rattle.run_laws.proofs.RoundsWithin.{goes_within_after, goes_within_later, rounds_follow_within}
 pub use Rattle.run_laws.proofs.ShowingLockstep.{OnItsOwn, Together, AtEnd, ShowingLockstep, showing_lockstep_follows}

@@ -17,6 +17,17 @@ within_of {K = K} {X = X} {Y = Y} f = record {
   forth = λ n. let a = f.forth n in (a.0, a.1, reached_any K (X a.0) (Y n) a.2);
 }
 
+-- what follows within an account follows within a larger one
+pub within_weaken : {A B V : Type 0} {K L K' L' : A → B → Type 0} {X : Run A V} {Y : Run B V}
+    → ((a : A) (b : B) → K a b → K' a b) → ((a : A) (b : B) → L a b → L' a b) → FollowsWithin K L X Y
+    → FollowsWithin K' L' X Y
+within_weaken {X = X} {Y = Y} k l f = record {
+  back =
+      λ i. let b = f.back i in
+      (b.0, (record { output = b.1.0.output; shown = k (X i).shown (Y b.0).shown b.1.0.shown }, b.1.1));
+  forth = λ i. let b = f.forth i in (b.0, l (X b.0).shown (Y i).shown b.1, b.2);
+}
+
 -- following within accounts is transitive, with the relations joined
 backed_through : {A B C V : Type 0} (K : A → B → Type 0) (K' : B → C → Type 0) (x : Moment A V) (y : Moment B V)
     (z : Moment C V) → Backed K x y → Backed K' y z → Backed (Through K K') x z

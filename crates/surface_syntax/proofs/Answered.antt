@@ -17,9 +17,8 @@ use Rattle.surface_syntax.specs.Depth.{depth}
 use Rattle.surface_syntax.specs.Freshness.{BindsFreshOnce}
 use Rattle.surface_syntax.specs.Claims.{Parses}
 use Rattle.surface_syntax.specs.Programs.{AreExpr, AreNoProgram, IsFault}
-use Rattle.surface_syntax.proofs.Binds.{read_is_one}
+use Rattle.surface_syntax.proofs.Binds.{read_is_one, stopped}
 use Rattle.surface_syntax.proofs.Bridge.{expanded}
-use Rattle.surface_syntax.proofs.FormRows.{stopped}
 use Rattle.surface_syntax.proofs.TopBridge.{tops_are}
 use Rattle.surface_syntax.proofs.TopSound.{brackets_of_are, program_shallow, program_fresh}
 use Rattle.surface_syntax.proofs.Public.{the_walk_reads_the_table_of_programs-each}

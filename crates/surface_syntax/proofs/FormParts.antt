@@ -1,5 +1,5 @@
 -- The forms of the pass, by what their elements are.
-use Rattle.std.proofs.Common.{◌≡◌, ℕ, Bool, true, false, List, Some, None, refl, ap, sym, ◌∙◌}
+use Rattle.std.proofs.Common.{◌≡◌, ℕ, Bool, true, false, List, Some, None, refl, ap, sym, subst, ◌∙◌}
 use Rattle.std.specs.Prelude.{pos, nat_eq, Option, Result, Ok, Err}
 use Rattle.std.specs.Option.{option_map}
 use Rattle.grift_base.specs.declared.refusals.FrontFault.{FrontFault}
@@ -13,7 +13,7 @@ use Rattle.surface_syntax.specs.declared.operands.Head.TheVariants.{Operator as 
 use Rattle.surface_syntax.specs.Words.{is_arrow_word, operand_count}
 use Rattle.surface_syntax.specs.Marked.{Sexpr, Sexprs, number, word, name, list, end, ◌▹◌, place}
 use Rattle.surface_syntax.specs.Marked.{reserved_at, how_many}
-use Rattle.surface_trees.specs.Trees.{TypeExpr, Param, ExprAt, LambdaNode, AscribeNode}
+use Rattle.surface_trees.specs.Trees.{Expr, TypeExpr, Param, ExprAt, LambdaNode, AscribeNode}
 use Rattle.surface_syntax.specs.Walking.{Walked, Reads, Refuses, followed_by, test, binder, colon}
 use Rattle.surface_syntax.specs.Walk.{Bound, walk_type, walk_param_list}
 use Rattle.surface_syntax.specs.TopWalk.{has_body}
@@ -135,6 +135,13 @@ headed_row p q (Operator o) rest names e =
     plain_test (nat_eq (how_many rest) (operand_count o)) p None
     (λ room names. then_with (parse_operands room rest names)
     (λ exprs names. Reads (applied_to (OperatorHead o) p exprs, names))) names
+
+-- what is answered where a word is this one
+pub headed_by : {R : Type 0} (result : Result R FrontFault) (view : R → Expr) (new : ℕ) (w v : Word) (p : Pos)
+    (rest : Sexprs) (names : ℕ)
+    → w ≡ v → Parses result view new (headed_of v p rest names) → Parses result view new (headed_of w p rest names)
+headed_by result view new w v p rest names e h =
+    subst (λ w. Parses result view new (headed_of w p rest names)) (sym e) h
 
 -- a list that begins with a word other than `->`
 pub list_row : (p : Pos) (s : Sexpr) (rest : Sexprs) (w : Word) (names : ℕ) → reserved_at s ≡ Some w

@@ -1,8 +1,9 @@
 -- The rows of the pass as the reader goes through them.
 use Rattle.std.proofs.Common.{◌≡◌, ℕ, ℤ, pos, ◌≤ℤ◌, ◌<ℤ◌, Bool, true, false, List, refl, ap, ◌∙◌, sym, subst, arith}
-use Rattle.std.specs.Prelude.{negsuc, Result, Err}
+use Rattle.std.specs.Prelude.{negsuc, Result, Err, IsErrAnd}
 use Rattle.std.proofs.lemmas.Int.{ints}
 use Rattle.grift_base.specs.declared.places.Pos.{Pos}
+use Rattle.grift_base.specs.declared.refusals.RefusalKind.{RefusalKind}
 use Rattle.grift_base.specs.declared.refusals.RefusalKind.TheVariants.{BadForm}
 use Rattle.grift_base.specs.declared.refusals.FrontFault.{FrontFault}
 use Rattle.grift_base.specs.declared.refusals.FrontFault.TheVariants.{Refused, OutOfMemory}
@@ -17,6 +18,7 @@ use Rattle.surface_syntax.specs.TopWalk.{has_body}
 use Rattle.surface_syntax.specs.Pass.{Parsing, then_with, paired, parse_lambda}
 use Rattle.surface_syntax.specs.Parts.{part_number, parse_behind}
 use Rattle.surface_syntax.specs.Claims.{Answers, Parses}
+use Rattle.surface_syntax.proofs.Binds.{stopped, went_out}
 
 -- ---- one line after another, and the first that is refused
 
@@ -34,10 +36,7 @@ bind_ok first next result view new a names e h =
     subst (λ m. Parses result view new (then_with m next)) (sym e) h
 
 -- a refusal or want of memory of the first line is that of all of them
-abbrev pub stopped : {R : Type 0} → FrontFault → Result R FrontFault
-stopped fault = Err fault
-
-stops : {A B R S : Type 0} (first : Walked (A × ℕ)) (next : A → Parsing B) (view : R → A) (wider : S → B)
+pub stops : {A B R S : Type 0} (first : Walked (A × ℕ)) (next : A → Parsing B) (view : R → A) (wider : S → B)
     (names new : ℕ) (fault : FrontFault) → Parses (stopped {R = R} fault) view names first
     → Parses (stopped {R = S} fault) wider new (then_with first next)
 unfolding then_with
@@ -51,6 +50,20 @@ pub bind_err : {A B R S : Type 0} (first : Walked (A × ℕ)) (next : A → Pars
 bind_err {A} {B} {R} {S} first next view wider names new fault given result e f h =
     subst (λ r. Parses r wider new (then_with first next)) (sym f)
     (stops first next view wider names new fault (subst (λ g. Parses g view names first) e h))
+
+-- the exit of a `?` behind the first line
+pub bind_exit : {A B R S : Type 0} (first : Walked (A × ℕ)) (next : A → Parsing B) (view : R → A) (wider : S → B)
+    (names new : ℕ) (fault : FrontFault) (given : Result R FrontFault) (result : Result S FrontFault)
+    → given ≡ Err fault → IsErrAnd result (λ f. f ≡ fault) → Parses given view names first
+    → Parses result wider new (then_with first next)
+bind_exit first next view wider names new fault given result e f h =
+    bind_err first next view wider names new fault given result e (went_out result fault f) h
+
+-- a refusal
+pub answers_refused : {B R : Type 0} (result : Result R FrontFault) (view : R → B) (names : ℕ) (kind : RefusalKind)
+    (p : Pos) (w : Walked (B × ℕ)) → result ≡ Err (Refused (record { kind = kind; pos = p })) → w ≡ Refuses kind p
+    → Parses result view names w
+answers_refused result view names kind p w e h = subst (λ r. Parses r view names w) (sym e) h
 
 -- the same of what needs no fresh names
 pub plain_reads : {A : Type 0} (walked : Walked A) (a : A) (names : ℕ) → walked ≡ Reads a
@@ -72,6 +85,13 @@ plain_err {A} {B} {R} {S} walked next view wider names new fault given result e 
     subst (λ r. Parses r wider new (then_with (paired walked names) next)) (sym f)
     (stops (paired walked names) next view wider names new fault
     (plain_stops walked view view names names fault (subst (λ g. Answers g view walked) e h)))
+
+pub plain_exit : {A B R S : Type 0} (walked : Walked A) (next : A → Parsing B) (view : R → A) (wider : S → B)
+    (names new : ℕ) (fault : FrontFault) (given : Result R FrontFault) (result : Result S FrontFault)
+    → given ≡ Err fault → IsErrAnd result (λ f. f ≡ fault) → Answers given view walked
+    → Parses result wider new (then_with (paired walked names) next)
+plain_exit walked next view wider names new fault given result e f h =
+    plain_err walked next view wider names new fault given result e (went_out result fault f) h
 
 -- ---- lambdas
 

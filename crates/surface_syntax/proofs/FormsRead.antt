@@ -9,7 +9,7 @@ use Rattle.surface_trees.specs.Trees.{TypeExpr, Param}
 use Rattle.surface_syntax.specs.Marked.{Sexpr, Sexprs, number, truth_value, word, name, list, end, ◌▹◌, how_many}
 use Rattle.surface_syntax.specs.Written.{Form, FormAt, CallForm, Forms, LambdaWritten, LambdaFrom, LetForms}
 use Rattle.surface_syntax.specs.Written.{LetrecForms}
-use Rattle.surface_syntax.specs.Walking.{Reads, followed_by, give, is_among, is_colon}
+use Rattle.surface_syntax.specs.Walking.{Reads, followed_by, give, is_among}
 use Rattle.surface_syntax.specs.Walking.{binder}
 use Rattle.surface_syntax.specs.Walk.{walk_param, walk_params, walk_param_list, walk, walk_list, walk_each}
 use Rattle.surface_syntax.specs.Walk.{walk_within, walk_lambda, walk_binding, walk_lets, walk_member, walk_letrecs}
@@ -52,14 +52,6 @@ call_step : (p : Pos) (f : Sexpr) (arguments : Sexprs) (function : Form) → wal
     (λ function. followed_by (walk_within 6 arguments) (λ forms. give (FormAt p (CallForm function forms))))
 call_step p (word q w) arguments function e = absurd (refused e)
 call_step p f arguments function e = refl
-
--- an expression is no colon
-no_colon : (e : Sexpr) (form : Form) → walk e ≡ Reads form → is_colon e ≡ false
-no_colon (word q w) form e = absurd (refused e)
-no_colon (number q n) form e = refl
-no_colon (truth_value q b) form e = refl
-no_colon (name q x t) form e = refl
-no_colon (list q l) form e = refl
 
 -- a lambda whose second element is an expression has no result type
 lambda_step : (p : Pos) (ps e : Sexpr) (rest : Sexprs) (form : Form) → walk e ≡ Reads form

@@ -1,5 +1,8 @@
 -- Lists that are read element by element: those that are done, and what is read behind them.
-use Rattle.std.proofs.Common.{◌≡◌, ℕ, List, [], ◌∷◌, ◌++◌, refl, sym, ap, ◌∙◌}
+use Rattle.std.proofs.Common.{◌≡◌, ℕ, List, [], ◌∷◌, ◌++◌, refl, sym, ap, subst, ◌∙◌}
+use Rattle.std.specs.Prelude.{Result, Err, IsErrAnd}
+use Rattle.grift_base.specs.declared.refusals.FrontFault.{FrontFault}
+use Rattle.grift_base.specs.declared.refusals.FrontFault.TheVariants.{Refused, OutOfMemory}
 use Rattle.surface_trees.specs.declared.names.Ident.TheVariants.{Source}
 use Rattle.surface_trees.specs.declared.exprs.Expr.{Expr as RustExpr}
 use Rattle.surface_trees.specs.declared.exprs.Binding.{Binding as RustBinding}
@@ -15,6 +18,9 @@ use Rattle.surface_trees.specs.Views.{expr_of, source_of}
 use Rattle.surface_syntax.specs.Parts.{exprs_before, lets_before, letrecs_before, name_of_binding, type_of_binding}
 use Rattle.surface_syntax.specs.Parts.{value_of_binding, bound_of, name_of_member, type_of_member, fun_of_member}
 use Rattle.surface_syntax.specs.Parts.{member_of}
+use Rattle.surface_syntax.specs.Claims.{Parses}
+use Rattle.surface_syntax.proofs.Binds.{stopped, went_out}
+use Rattle.surface_syntax.proofs.FormRows.{stops}
 
 -- an answer with another list
 abbrev pub with_list : {A B : Type 0} → (A → B) → Walked (A × ℕ) → Walked (B × ℕ)
@@ -68,6 +74,25 @@ one_more put before h xs x first rest then a next w e same so_far =
     Reads (then a others, names))))) e)
     ∙ so_far
 
+-- where the first is refused, all are
+stays : {L S : Type 0} (before : L → L) (wider : S → L) (names : ℕ) (fault : FrontFault) (w : Walked (L × ℕ))
+    → Parses (stopped {R = S} fault) wider names w → Parses (stopped {R = S} fault) wider names (with_list before w)
+stays before wider names (Refused refusal) w h = ap (with_list before) h
+stays before wider names OutOfMemory w h = tt
+
+loop_exit : {A L R S : Type 0} (before : L → L) (first : Walked (A × ℕ)) (next : A → Parsing L) (view : R → A)
+    (wider : S → L) (names : ℕ) (fault : FrontFault) (given : Result R FrontFault) (result : Result S FrontFault)
+    (w : Walked (L × ℕ))
+    → given ≡ Err fault → IsErrAnd result (λ f. f ≡ fault) → Parses given view names first
+    → with_list before (then_with first next) ≡ w → Parses result wider names w
+loop_exit {S = S} before first next view wider names fault given result w e f h same =
+    let stop : Parses (stopped {R = S} fault) wider names (then_with first next) =
+    stops first next view wider names names fault (subst (λ g. Parses g view names first) e h) in
+    let all : Parses (stopped {R = S} fault) wider names w =
+    subst (λ w. Parses (stopped {R = S} fault) wider names w) same
+    (stays before wider names fault (then_with first next) stop) in
+    subst (λ r. Parses r wider names w) (sym (went_out result fault f)) all
+
 -- ---- expressions
 
 abbrev put_expr : RustExpr → Exprs → Exprs
@@ -90,6 +115,16 @@ pub each_more : (es : List RustExpr) (e : RustExpr) (s : Sexpr) (rest : Sexprs) 
 each_more es e s rest names next w h same =
     one_more put_expr exprs_before exprs_stand es e (parse s names) (λ expr. parse_each rest) ExprThen (expr_of e) next
     w h (λ others. refl) same
+
+pub each_exit : {S : Type 0} (es : List RustExpr) (s : Sexpr) (rest : Sexprs) (names next : ℕ)
+    (wider : S → Exprs) (fault : FrontFault) (given : Result RustExpr FrontFault) (result : Result S FrontFault)
+    (w : Walked (Exprs × ℕ))
+    → given ≡ Err fault → IsErrAnd result (λ f. f ≡ fault) → Parses given expr_of next (parse s names)
+    → behind_exprs es (parse_each (s ▹ rest) names) ≡ w → Parses result wider next w
+each_exit es s rest names next wider fault given result w e f h same =
+    loop_exit (exprs_before es) (parse s names) (λ expr names. then_with (parse_each rest names)
+    (λ exprs names. Reads (ExprThen expr exprs, names)))
+    expr_of wider next fault given result w e f h same
 
 -- ---- bindings
 
@@ -123,6 +158,16 @@ lets_more bs b s rest seen bound names next w h k source same =
     (λ one. parse_lets (seen ++ one.name ∷ []) rest) then_let (bound_of b) next w h
     (λ others. ap (λ x. LetThen x (type_of_binding b) (value_of_binding b) others) source) same
 
+pub lets_exit : {S : Type 0} (bs : List RustBinding) (s : Sexpr) (rest : Sexprs) (seen : List (List ℕ)) (names next : ℕ)
+    (wider : S → LetBindings) (fault : FrontFault) (given : Result RustBinding FrontFault)
+    (result : Result S FrontFault) (w : Walked (LetBindings × ℕ))
+    → given ≡ Err fault → IsErrAnd result (λ f. f ≡ fault) → Parses given bound_of next (parse_binding seen s names)
+    → behind_lets bs (parse_lets seen (s ▹ rest) names) ≡ w → Parses result wider next w
+lets_exit bs s rest seen names next wider fault given result w e f h same =
+    loop_exit (lets_before bs) (parse_binding seen s names) (λ one names. then_with
+    (parse_lets (seen ++ one.name ∷ []) rest names) (λ others names. Reads (then_let one others, names)))
+    bound_of wider next fault given result w e f h same
+
 -- ---- members
 
 abbrev put_member : RustMember → LetrecMembers → LetrecMembers
@@ -155,3 +200,13 @@ letrecs_more bs b s rest seen bound names next w h k source same =
     ∙ one_more put_member letrecs_before members_stand bs b (parse_member seen s names)
     (λ one. parse_letrecs (seen ++ one.name ∷ []) rest) then_letrec (member_of b) next w h
     (λ others. ap (λ x. LetrecThen x (type_of_member b) (fun_of_member b) others) source) same
+
+pub letrecs_exit : {S : Type 0} (bs : List RustMember) (s : Sexpr) (rest : Sexprs) (seen : List (List ℕ))
+    (names next : ℕ) (wider : S → LetrecMembers) (fault : FrontFault) (given : Result RustMember FrontFault)
+    (result : Result S FrontFault) (w : Walked (LetrecMembers × ℕ))
+    → given ≡ Err fault → IsErrAnd result (λ f. f ≡ fault) → Parses given member_of next (parse_member seen s names)
+    → behind_letrecs bs (parse_letrecs seen (s ▹ rest) names) ≡ w → Parses result wider next w
+letrecs_exit bs s rest seen names next wider fault given result w e f h same =
+    loop_exit (letrecs_before bs) (parse_member seen s names) (λ one names. then_with
+    (parse_letrecs (seen ++ one.name ∷ []) rest names) (λ others names. Reads (then_letrec one others, names)))
+    member_of wider next fault given result w e f h same

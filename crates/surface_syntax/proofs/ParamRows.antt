@@ -1,17 +1,22 @@
 -- The rows of the walk over parameters, by what is known of their elements.
 use Rattle.std.proofs.Common.{◌≡◌, ◌≢◌, ◌-◌, ◌++◌, ℕ, zero, suc, List, [], ◌∷◌}
-use Rattle.std.proofs.Common.{refl, ap, ◌∙◌, sym, arith, append_assoc, append-nil}
+use Rattle.std.proofs.Common.{refl, ap, ◌∙◌, sym, subst, arith, append_assoc}
+use Rattle.std.specs.Prelude.{Result, Err, IsErrAnd}
 use Rattle.grift_base.specs.declared.places.Pos.{Pos}
 use Rattle.grift_base.specs.declared.refusals.RefusalKind.{RefusalKind}
 use Rattle.grift_base.specs.declared.refusals.RefusalKind.TheVariants.{BadForm, TooWide}
+use Rattle.grift_base.specs.declared.refusals.FrontFault.{FrontFault}
+use Rattle.grift_base.specs.declared.refusals.FrontFault.TheVariants.{Refused, OutOfMemory}
 use Rattle.surface_syntax.specs.declared.words.Mark.{Mark}
 use Rattle.surface_syntax.specs.declared.words.Mark.TheVariants.{Reserved, Free}
 use Rattle.surface_trees.specs.declared.types.Param.{Param as RustParam}
-use Rattle.surface_syntax.specs.Marked.{Sexpr, Sexprs, end, ◌▹◌, place, marked_symbol}
+use Rattle.surface_syntax.specs.Marked.{Sexpr, Sexprs, ◌▹◌, place, marked_symbol}
 use Rattle.surface_trees.specs.Trees.{Param}
 use Rattle.surface_syntax.specs.Walking.{Walked, Reads, Refuses, followed_by}
 use Rattle.surface_syntax.specs.Walk.{plain_param, walk_param, walk_params, walk_param_list}
 use Rattle.surface_trees.specs.Views.{source_of, param_of, params_of, named_param_of}
+use Rattle.surface_syntax.specs.Claims.{Answers}
+use Rattle.surface_syntax.proofs.Binds.{stopped, went_out}
 use Rattle.surface_syntax.proofs.Steps.{place_symbol, place_marked, reads_then, refuses_then, colon_stands, colon_lacks}
 
 pub symbol_param : (seen : List (List ℕ)) (p : Pos) (x : List ℕ) (m : Mark)
@@ -45,6 +50,25 @@ params_refused before (suc room) seen s rest w kind p some e same =
     (followed_by one (λ one. followed_by (walk_params room (seen ++ one.0 ∷ []) rest)
     (λ others. Reads (one.1 ∷ others))))) e
 
+params_stop : {R S : Type 0} (before : List Param) (room : ℕ) (seen : List (List ℕ)) (s : Sexpr) (rest : Sexprs)
+    (view : R → List ℕ × Param) (wider : S → List Param) (w : Walked (List Param)) (fault : FrontFault)
+    → room ≢ 0 → Answers (stopped {R = R} fault) view (walk_param seen s)
+    → behind_params before (walk_params room seen (s ▹ rest)) ≡ w → Answers (stopped {R = S} fault) wider w
+params_stop before room seen s rest view wider w (Refused refusal) some h same =
+    params_refused before room seen s rest w refusal.kind refusal.pos some h same
+params_stop before room seen s rest view wider w OutOfMemory some h same = tt
+
+-- the exit of a `?` at a parameter
+pub params_exit : {R S : Type 0} (before : List Param) (room : ℕ) (seen : List (List ℕ)) (s : Sexpr) (rest : Sexprs)
+    (view : R → List ℕ × Param) (wider : S → List Param) (w : Walked (List Param)) (fault : FrontFault)
+    (given : Result R FrontFault) (result : Result S FrontFault)
+    → given ≡ Err fault → IsErrAnd result (λ f. f ≡ fault) → room ≢ 0 → Answers given view (walk_param seen s)
+    → behind_params before (walk_params room seen (s ▹ rest)) ≡ w → Answers result wider w
+params_exit before room seen s rest view wider w fault given result e f some h same =
+    subst (λ r. Answers r wider w) (sym (went_out result fault f))
+    (params_stop before room seen s rest view wider w fault some
+    (subst (λ g. Answers g view (walk_param seen s)) e h) same)
+
 behind_one : (before : List Param) (param : Param) (others : Walked (List Param))
     → behind_params before (followed_by others (λ others. Reads (param ∷ others)))
     ≡ behind_params (before ++ param ∷ []) others
@@ -72,11 +96,6 @@ params_more before param (suc room) seen next s rest w some e bound same =
         → params_of (before ++ param ∷ []) ≡ params_of before ++ param_of param ∷ []
     params_last [] param = refl
     params_last (b ∷ before) param = ap (λ ps. param_of b ∷ ps) (params_last before param)
-
-pub params_done : (before : List Param) (room : ℕ) (seen : List (List ℕ)) (w : Walked (List Param))
-    → behind_params before (walk_params room seen end) ≡ w → w ≡ Reads before
-params_done before zero seen w same = sym same ∙ ap Reads (append-nil before)
-params_done before (suc room) seen w same = sym same ∙ ap Reads (append-nil before)
 
 pub ruleset param_steps = (
   reads_then,

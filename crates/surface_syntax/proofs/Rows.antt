@@ -1,11 +1,12 @@
 -- The rows of the pass over the forms of a program, as the reader goes through them.
 use Rattle.std.proofs.Common.{◌≡◌, ◌≢◌, ◌-◌, ℕ, zero, suc, true, false, List, [], ◌∷◌, ◌++◌}
-use Rattle.std.proofs.Common.{map, Option, Some, None, refl, ap, ◌∙◌, sym, subst, arith, append_assoc, append-nil}
-use Rattle.std.specs.Prelude.{Result, Ok, Err, IfOk}
+use Rattle.std.proofs.Common.{map, Option, Some, None, refl, ap, ◌∙◌, sym, subst, arith, append_assoc}
+use Rattle.std.specs.Prelude.{Result, Ok, Err, IfOk, IsErrAnd}
 use Rattle.grift_base.specs.declared.places.Pos.{Pos}
 use Rattle.grift_base.specs.declared.refusals.RefusalKind.{RefusalKind}
 use Rattle.grift_base.specs.declared.refusals.RefusalKind.TheVariants.{BadForm, TooManyForms}
 use Rattle.grift_base.specs.declared.refusals.FrontFault.{FrontFault}
+use Rattle.grift_base.specs.declared.refusals.FrontFault.TheVariants.{Refused, OutOfMemory}
 use Rattle.sexpr_reader.specs.declared.sexps.SexpNode.{SexpNode}
 use Rattle.sexpr_reader.specs.declared.sexps.SexpNode.TheVariants.{Int as IntCase, Bool as BoolCase}
 use Rattle.sexpr_reader.specs.declared.sexps.SexpNode.TheVariants.{Symbol as SymbolCase, List as ListCase}
@@ -29,7 +30,9 @@ use Rattle.surface_syntax.specs.Pass.{Parsing, then_with, paired, parse, parse_l
 use Rattle.surface_syntax.specs.Pass.{parse_bound, parse_define, parse_top, parse_tops, run_behind}
 use Rattle.surface_syntax.specs.Parts.{parse_behind}
 use Rattle.surface_syntax.specs.TopParts.{part_of, parse_named, is_definition, parse_definition, Grows}
+use Rattle.surface_syntax.specs.Claims.{Parses}
 use Rattle.surface_syntax.proofs.Steps.{place_marked}
+use Rattle.surface_syntax.proofs.Binds.{stopped, went_out}
 use Rattle.surface_syntax.proofs.FormRows.{typed_then, lambda_has, bind_reads, plain_reads}
 
 -- ---- what is bound
@@ -354,6 +357,27 @@ tops_refused before (suc room) run s rest names w kind p some e same =
     (λ part names. then_with (parse_tops room (run_behind run part) rest names)
     (λ others names. Reads (part ∷ others, names))))) e
 
+tops_stop : {R S : Type 0} (before : List Part) (room : ℕ) (run : List (List ℕ)) (s : Sexpr) (rest : Sexprs)
+    (names next : ℕ) (view : R → Part) (wider : S → List Part) (w : Walked (List Part × ℕ)) (fault : FrontFault)
+    → room ≢ 0 → Parses (stopped {R = R} fault) view next (parse_top run s names)
+    → behind_parts before (parse_tops room run (s ▹ rest) names) ≡ w
+    → Parses (stopped {R = S} fault) wider next w
+tops_stop before room run s rest names next view wider w (Refused refusal) some h same =
+    tops_refused before room run s rest names w refusal.kind refusal.pos some h same
+tops_stop before room run s rest names next view wider w OutOfMemory some h same = tt
+
+-- the exit of a `?` at a form
+pub tops_exit : {R S : Type 0} (before : List Part) (room : ℕ) (run : List (List ℕ)) (s : Sexpr) (rest : Sexprs)
+    (names next : ℕ) (view : R → Part) (wider : S → List Part) (w : Walked (List Part × ℕ)) (fault : FrontFault)
+    (given : Result R FrontFault) (result : Result S FrontFault)
+    → given ≡ Err fault → IsErrAnd result (λ f. f ≡ fault) → room ≢ 0
+    → Parses given view next (parse_top run s names)
+    → behind_parts before (parse_tops room run (s ▹ rest) names) ≡ w → Parses result wider next w
+tops_exit before room run s rest names next view wider w fault given result e f some h same =
+    subst (λ r. Parses r wider next w) (sym (went_out result fault f))
+    (tops_stop before room run s rest names next view wider w fault some
+    (subst (λ g. Parses g view next (parse_top run s names)) e h) same)
+
 pub tops_more : (before : List RustPart) (part : RustPart) (room : ℕ) (run next : List (List ℕ)) (s : Sexpr)
     (rest : Sexprs) (names after : ℕ) (w : Walked (List Part × ℕ))
     → room ≢ 0 → parse_top run s names ≡ Reads (part_of part, after) → next ≡ run_behind run (part_of part)
@@ -370,11 +394,6 @@ tops_more before part (suc room) run next s rest names after w some e bound same
     (λ part names. then_with (parse_tops room (run_behind run part) rest names)
     (λ others names. Reads (part ∷ others, names))))) e)
     ∙ same)
-
-pub tops_done : (before : List Part) (room : ℕ) (run : List (List ℕ)) (names : ℕ) (w : Walked (List Part × ℕ))
-    → behind_parts before (parse_tops room run end names) ≡ w → w ≡ Reads (before, names)
-tops_done before zero run names w same = sym same ∙ ap (λ list. Reads (list, names)) (append-nil before)
-tops_done before (suc room) run names w same = sym same ∙ ap (λ list. Reads (list, names)) (append-nil before)
 
 pub ruleset top = (
   run_stays,

@@ -1,10 +1,11 @@
 // Programs: their forms put together.
 
 ghost use Rattle.std.specs.Prelude.{◌≡◌, map, IfOk};
-ghost use Rattle.surface_trees.specs.Trees.{ExprAt, UnitNode};
-ghost use Rattle.surface_syntax.specs.Expansion.{Alone, closed, with_function, before, ending, whole};
+ghost use Rattle.surface_trees.specs.Trees.{ExprAt, UnitNode, LetNode, LetThen, NoLets};
+ghost use Rattle.surface_syntax.specs.Expansion.{ExprPart, Alone, closed, one_expr, with_function, before, ending, whole};
 ghost use Rattle.surface_trees.specs.Views.{expr_of};
-ghost use Rattle.surface_syntax.specs.Parts.{name_of_member, type_of_member, fun_of_member};
+ghost use Rattle.surface_syntax.specs.Parts.{name_of_member, type_of_member, fun_of_member, name_of_binding};
+ghost use Rattle.surface_syntax.specs.Parts.{type_of_binding, value_of_binding};
 ghost use Rattle.surface_syntax.specs.TopParts.{part_of, rest_of};
 
 use crate::derived::{bound_first, member_first, one, two};
@@ -51,19 +52,39 @@ fn with_function(alloc: Global, pos: Pos, member: Member, rest: Rest) -> Result<
     Ok(Rest::Run(pos, members, body))
 }
 
+// An expression before the rest. Each form has a function of its own, since what a proof costs goes by the calls of a
+// function times its exits.
+fn with_expression(alloc: Global, pos: Pos, expr: Expr, rest: Rest) -> Result<Rest, OutOfMemory>
+    ensures { IfOk result (λ r. rest_of r ≡ before (ExprPart pos (expr_of expr)) (rest_of rest)) }
+{
+    let (expr, rest) = beside(expr, closed(alloc, rest))?;
+    let both = two(alloc, expr, rest)?;
+    Ok(Rest::Alone(Expr {
+        pos,
+        node: ExprNode::Begin(both),
+    }))
+}
+
+// A value defined before the rest.
+fn with_value(alloc: Global, pos: Pos, binding: Binding, rest: Rest) -> Result<Rest, OutOfMemory>
+    ensures { IfOk result (λ r. rest_of r ≡ Alone (ExprAt pos (LetNode (LetThen (name_of_binding binding) (type_of_binding
+        binding) (value_of_binding binding) NoLets) (one_expr (closed (rest_of rest)))))) }
+{
+    let (binding, rest) = beside(binding, closed(alloc, rest))?;
+    let bindings = bound_first(alloc, binding, Bindings::Nil);
+    let (bindings, body) = both(bindings, one(alloc, rest))?;
+    Ok(Rest::Alone(Expr {
+        pos,
+        node: ExprNode::Let(bindings, body),
+    }))
+}
+
 // A form before the rest.
 fn before(alloc: Global, part: Part, rest: Rest) -> Result<Rest, OutOfMemory>
     ensures { IfOk result (λ r. rest_of r ≡ before (part_of part) (rest_of rest)) }
 {
     match part {
-        Part::Expr { pos, expr } => {
-            let (expr, rest) = beside(expr, closed(alloc, rest))?;
-            let both = two(alloc, expr, rest)?;
-            Ok(Rest::Alone(Expr {
-                pos,
-                node: ExprNode::Begin(both),
-            }))
-        }
+        Part::Expr { pos, expr } => with_expression(alloc, pos, expr, rest),
         Part::Value {
             pos,
             name,
@@ -71,14 +92,7 @@ fn before(alloc: Global, part: Part, rest: Rest) -> Result<Rest, OutOfMemory>
             value,
         } => {
             let name = Ident::Source(name);
-            let binding = Binding { name, ty, value };
-            let (binding, rest) = beside(binding, closed(alloc, rest))?;
-            let bindings = bound_first(alloc, binding, Bindings::Nil);
-            let (bindings, body) = both(bindings, one(alloc, rest))?;
-            Ok(Rest::Alone(Expr {
-                pos,
-                node: ExprNode::Let(bindings, body),
-            }))
+            with_value(alloc, pos, Binding { name, ty, value }, rest)
         }
         Part::Function { pos, name, ty, fun } => {
             let name = Ident::Source(name);

@@ -7,7 +7,7 @@ use grift_base::lists::{Items, OutOfMemory};
 use grift_base::made::{both, boxed_made};
 use grift_base::places::Pos;
 use std::alloc::Global;
-use type_graph::rows::{Row, TypeIds};
+use type_graph::rows::Row;
 
 /// A type and its place: that of its word, or of its opening bracket.
 #[cycle(written_type)]
@@ -70,25 +70,6 @@ impl Drop for TypeExprs {
     }
 }
 
-// The same row again.
-fn duplicate_row(alloc: Global, row: &Row) -> Result<Row, OutOfMemory>
-    ensures { IfOk result (λ same. same ≡ row.now) }
-{
-    match row {
-        Row::Int => Ok(Row::Int),
-        Row::Bool => Ok(Row::Bool),
-        Row::Unit => Ok(Row::Unit),
-        Row::Dyn => Ok(Row::Dyn),
-        Row::Fun(parameters, result) => Ok(Row::Fun(
-            TypeIds::from_slice(alloc, parameters.as_slice())?,
-            *result,
-        )),
-        Row::Tuple(parts) => Ok(Row::Tuple(TypeIds::from_slice(alloc, parts.as_slice())?)),
-        Row::Ref(content) => Ok(Row::Ref(*content)),
-        Row::Vect(content) => Ok(Row::Vect(*content)),
-    }
-}
-
 impl TypeExpr {
     ghost use Rattle.std.specs.Prelude.{◌≡◌, IfOk};
     ghost use Rattle.surface_trees.specs.Views.{type_of};
@@ -115,7 +96,7 @@ impl TypeNode {
         ensures { IfOk result (λ same. type_node_of same ≡ type_node_of self.now) }
     {
         match self {
-            TypeNode::Base(row) => Ok(TypeNode::Base(duplicate_row(alloc, row)?)),
+            TypeNode::Base(row) => Ok(TypeNode::Base(row.duplicate(alloc)?)),
             TypeNode::Fun(parameters, result) => {
                 let result = boxed_made(alloc, result.duplicate(alloc));
                 let (parameters, result) = both(parameters.duplicate(alloc), result)?;

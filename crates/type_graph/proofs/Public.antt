@@ -1,7 +1,7 @@
 -- The lemmas on tables of types that other crates use.
 pub use Rattle.type_graph.proofs.Places.{none_is_not_some, same_some, slice_get_at, get_kept, get_last}
 pub use Rattle.type_graph.proofs.Places.{get_before_or_last, HasNoRepeats-push, map-injective}
-pub use Rattle.type_graph.proofs.RowLemmas.{rows_are_equal, row_is_itself}
+pub use Rattle.type_graph.proofs.RowLemmas.{equal_lists, rows_are_equal, row_is_itself}
 pub use Rattle.type_graph.proofs.TreeLemmas.{same_rows, more_rows, more_length, row_stays, row_same, later_within}
 pub use Rattle.type_graph.proofs.TreeLemmas.{parts_within, all_parts_within, both_of, parts_end, parts_end_twice}
 pub use Rattle.type_graph.proofs.TreeLemmas.{ends_by_parts, ends_deeper}

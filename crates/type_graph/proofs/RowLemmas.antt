@@ -29,7 +29,7 @@ same_ids xs ys = slice_eq-Decides same_id xs ys (pointwise ids.eq xs ys) refl
 pub same_row : (x y : Row) → Decides (ghosts.eq x y) (x ≡ y)
 same_row x y = search (rules, same_ids)
 
-equal_lists : (xs ys : List ℕ) → equal_numbers xs ys ≡ true → xs ≡ ys
+pub equal_lists : (xs ys : List ℕ) → equal_numbers xs ys ≡ true → xs ≡ ys
 equal_lists [] [] e = refl
 equal_lists [] (y ∷ ys) e = cc
 equal_lists (x ∷ xs) [] e = cc

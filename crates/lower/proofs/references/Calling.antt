@@ -1,7 +1,7 @@
 -- What calls of functions with proxies go through: words that are set, casts of a function's coercion, and one cast.
 use Rattle.std.proofs.Common.{◌≡◌, ℕ, zero, suc, ◌+◌, ◌%◌, ◌^◌, ◌<◌, ◌≤◌, true, false}
 use Rattle.std.proofs.Common.{List, [], ◌∷◌, ◌++◌, length, Option, Some, None, refl, sym, ap, ap₂, ◌∙◌, subst, arith}
-use Rattle.std.specs.Prelude.{◌==◌, nat_lt, slice_get, option_map}
+use Rattle.std.specs.Prelude.{◌==◌, nat_lt, option_map}
 use Rattle.grift_base.specs.Types.{TypeHead, TypeRow}
 use Rattle.low_ir.specs.Prices.{slot_price, source_price}
 use Rattle.low_ir.specs.declared.code.LowSource.TheVariants.{Number}
@@ -15,7 +15,7 @@ use Rattle.coercion_norm.specs.Heights.{coercion_height, highest}
 use Rattle.coercion_norm.specs.MergedMode.{part_at, split_parts}
 use Rattle.coercion_norm.specs.Normal.{IsNormal, AreNormal}
 use Rattle.coercion_norm.specs.Objects.{Object}
-use Rattle.coercion_norm.specs.Held.{Layout, Held, AreHeld, rows_in, height_in}
+use Rattle.coercion_norm.specs.Held.{Layout, Held, rows_in, height_in}
 use Rattle.rt_cast.specs.WholeObjects.{IsSolid}
 use Rattle.rt_cast.specs.Costs.{cast_cost}
 use Rattle.rt_cast.specs.LightCasts.{cast_words_of, cast_price_of}
@@ -174,15 +174,6 @@ module _ {V : Type 0} (walk : Walk V) (low : walk.l.tallest ≤ 65534) (A : Type
 
   abbrev Fi : List Object → Heap → Type 0
   Fi = Fine walk.setting walk.l walk.around
-
-  pub part_held : (objects : List Object) (cs : Coercions) (ws : List ℕ) (k : ℕ) (d : Coercion)
-      → AreHeld walk.l objects cs ws → part_at cs k ≡ Some d
-      → (w : ℕ) × (slice_get ws k ≡ Some w) × Held walk.l objects d w
-  part_held objects NoCoercions ws k d h e = none_some e
-  part_held objects (CoercionThen c cs) [] k d h e = absurd h
-  part_held objects (CoercionThen c cs) (w ∷ ws) zero d h e =
-      (w, refl, subst (λ x. Held walk.l objects x w) (same_some c d e) h.0)
-  part_held objects (CoercionThen c cs) (w ∷ ws) (suc k) d h e = part_held objects cs ws k d h.1 e
 
   pub part_low : (kind : Kind) (cs : Coercions) (k : ℕ) (d : Coercion) → IsLow walk.l (Middle kind cs)
       → part_at cs k ≡ Some d → IsLow walk.l d

@@ -25,13 +25,13 @@ use Rattle.rt_cast.specs.WholeObjects.{IsSolid}
 use Rattle.rt_cast.specs.States.{Grows, Heap, Fine, IsReady, around, heap_of, st}
 use Rattle.rt_cast.specs.MergedValues.{Merged, Base, Solid, Proxied, InDyn}
 use Rattle.rt_cast.specs.Carried.{CarriedBy, IsLow}
-use Rattle.rt_cast.proofs.Public.{arrives}
+use Rattle.rt_cast.proofs.Public.{arrives, part_held}
 use Rattle.rt_cast.proofs.Public.{Walk, none_some, same_some, eq_true, eq_false, kind_read, count_read, not_zero}
 use Rattle.rt_cast.proofs.Public.{Budget, More, at_most, WordThere, loads, loads_at, computes, sets_word, if_true}
 use Rattle.rt_cast.proofs.Public.{if_false, header_there, ReachedIn, End, lt_false, walk as walk_from}
 use Rattle.rt_refs.specs.CellCodes.{find_cell, take_part, test_index, trap_index}
 use Rattle.lower.specs.CellLaws.{cell_behind, under, CellStands, TrapsAt}
-use Rattle.lower.proofs.references.Calling.{mapped, part_held, part_low}
+use Rattle.lower.proofs.references.Calling.{mapped, part_low}
 use Rattle.lower.proofs.references.CellSteps.{ends_branch}
 use Rattle.rt_cast.proofs.Public.{proxy_header, proxy_read}
 
@@ -182,7 +182,7 @@ module _ {V : Type 0} (walk : Walk V) (low : walk.l.tallest ≤ 65534) (A : Type
         let lc : IsLow walk.l (Middle z.kind z.parts) = subst (IsLow walk.l) z.is is_low in
         let hc : Held walk.l objects (Middle z.kind z.parts) wc =
         subst (λ y. Held walk.l objects y wc) z.is held in
-        let p = part_held walk low A IsHeld still is_solid objects z.parts hc.0 k d hc.2 z.part in
+        let p = part_held walk.l objects z.parts hc.0 k d hc.2 z.part in
         let ld = part_low walk low A IsHeld still is_solid z.kind z.parts k d lc z.part in
         let headc =
         header (kind_number z.kind) (coercion_height (height_in walk.l) (Middle z.kind z.parts)) (length hc.0) in

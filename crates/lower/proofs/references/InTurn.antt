@@ -28,11 +28,11 @@ use Rattle.rt_cast.specs.MergedValues.{Merged, Outcome, Stuck, Gives, Blames, ca
 use Rattle.rt_cast.specs.Carried.{CarriedBy, AreCarried, IsLow, BlamesAt}
 use Rattle.rt_cast.proofs.Public.{arrives, counted, blames_at}
 use Rattle.rt_cast.proofs.Public.{Walk, walk, eq_true, eq_false, lt_true, End, More, at_most, loads, if_true, if_false}
-use Rattle.rt_cast.proofs.Public.{calls, ReachedIn, grows_on, held_still}
+use Rattle.rt_cast.proofs.Public.{calls, ReachedIn, grows_on, held_still, part_held}
 use Rattle.rt_refs.specs.CallCodes.{argument_words, call_function, cast_arguments}
 use Rattle.lower.proofs.references.Calling.{Casts, Found, Goes, Has, all_carried_still, carried_more, cast_behind}
 use Rattle.lower.proofs.references.Calling.{found_kept}
-use Rattle.lower.proofs.references.Calling.{has_above, has_below, has_more, has_words, longer, number_near, part_held}
+use Rattle.lower.proofs.references.Calling.{has_above, has_below, has_more, has_words, longer, number_near}
 use Rattle.lower.proofs.references.Calling.{part_low}
 use Rattle.lower.proofs.references.Calling.{small_number, word_here, word_near, word_other}
 use Rattle.lower.specs.CallLaws.{CallsAt, AtArgument, CastInTurn, Stretch, where_comes}
@@ -137,7 +137,7 @@ module _ {V : Type 0} (reading : Halt → Ending V) (setting : Setting) (l : Lay
           (st (around t) 13 locals (call_function (cast first) number) rests s.waiting h)
       called t pre done long objects h fine here grows same locals rests found has hp hc hf at_end =
           let w = from t (Calls pre) 0 in
-          let p = part_held w low A IsHeld still is_solid objects parts hc.0 number result hc.2 at_end in
+          let p = part_held l objects parts hc.0 number result hc.2 at_end in
           let head9 = header 9 (coercion_height (height_in l) (Middle FunKind parts)) (length hc.0) in
           let locals2 = set_local 11 p.0 locals in
           let last : ReachedIn w End (st (around t) 13 locals2 (CallAt 12 (Word 10)
@@ -390,7 +390,7 @@ module _ {V : Type 0} (reading : Halt → Ending V) (setting : Setting) (l : Lay
           let t : LowState = top locals rests (suc j) k h in
           let here = from t (Calls pre) 0 in
           let small : k < 6 = omega (arith, sum) in
-          let p = part_held here low A IsHeld still is_solid objects parts hc.0 k d hc.2 casts.0 in
+          let p = part_held l objects parts hc.0 k d hc.2 casts.0 in
           let l11 : Locals = set_local 11 p.0 locals in
           let found11 = found_kept 11 p.0 locals number function coercion address refl refl refl refl found in
           let o : Outcome A = cast_value (heads k) l.types d u in

@@ -51,6 +51,7 @@ use Rattle.reg_assign.proofs.slotted.Frames.{stack_same, Body, On, has_room, Sam
 use Rattle.reg_assign.proofs.slotted.Frames.{way_first, body_scratch}
 use Rattle.reg_assign.proofs.slotted.SlotWords.{wrote, Permits, when_readable, loads, stores, Fetched, fetch}
 use Rattle.reg_assign.proofs.slotted.SlotWords.{saved_slot, saved_from, saved, slot_into, real_put}
+use Rattle.reg_assign.proofs.Items.{drop_here, IsBody}
 
 -- ---- words of operations
 
@@ -139,19 +140,6 @@ get_fits r regs h = pick (r == 0)
 abbrev NotBoth : VReg → VReg → Type 0
 NotBoth (Real r) (Real q) = (r == q) ≡ false
 NotBoth rd a = Unit {0}
-
--- ---- the items of a list from a place on
-
-pub drop_here : {X : Type 0} (xs : List X) (p : ℕ) (x : X) → slice_get xs p ≡ Some x → drop p xs ≡ x ∷ drop (suc p) xs
-drop_here [] zero x e = absurd (cc)
-drop_here [] (suc p) x e = absurd (cc)
-drop_here (y ∷ ys) zero x e = let same : y ≡ x = cc in ap (λ z. z ∷ ys) same
-drop_here (y ∷ ys) (suc p) x e = drop_here ys p x e
-
--- an item that is no procedure
-abbrev pub IsBody : VirtualItem → Type 0
-IsBody (Procedure k first count) = ⊥
-IsBody item = Unit {0}
 
 pub expand_cons : (out first count : ℕ) (item : VirtualItem) (rest : List VirtualItem) → IsBody item
     → expand_all out first count (item ∷ rest) ≡ expand out first count item ++ expand_all out first count rest

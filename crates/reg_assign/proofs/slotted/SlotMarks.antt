@@ -29,7 +29,8 @@ use Rattle.reg_assign.proofs.slotted.Frames.{Slotting, none_is, some_is, equal_o
 use Rattle.reg_assign.proofs.slotted.Frames.{rest_of, has_rest, HasHome, Body, On, has_room, seen_of, Way, way_first}
 use Rattle.reg_assign.proofs.slotted.Frames.{body_scratch, body_at}
 use Rattle.reg_assign.proofs.slotted.SlotWords.{fetch}
-use Rattle.reg_assign.proofs.slotted.SlotItems.{drop_here, IsBody, expand_cons, kept, code_of, Sim, SimItem, sim_given}
+use Rattle.reg_assign.proofs.Items.{drop_here, IsBody}
+use Rattle.reg_assign.proofs.slotted.SlotItems.{expand_cons, kept, code_of, Sim, SimItem, sim_given}
 use Rattle.reg_assign.proofs.slotted.SlotItems.{Reached, sim_go, sim_stay}
 
 -- the place behind so many items

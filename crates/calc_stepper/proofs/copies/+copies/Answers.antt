@@ -1,13 +1,25 @@
-use Rattle.std.proofs.Common.{◌≡◌, ◌∙◌, ap, ap₂, sym}
+use Rattle.std.proofs.Common.{◌≡◌, ◌∙◌, ℕ, List, ap, ap₂, rules, sym}
+use Rattle.core_calc.specs.Terms.{BindingThen, MemberThen, Members}
 use Rattle.core_calc.specs.Terms.{Term, Call, Cast, Enter, FunValue, Group, If, InjectValue, Lambda, Let, MemberValue}
-use Rattle.core_calc.specs.Terms.{Prim, Seq, Tuple, TupleValue, ValueTerm, WrapValue}
-use Rattle.core_calc.specs.Views.{names_of, term_of, value_of}
+use Rattle.core_calc.specs.Terms.{Prim, Seq, TermThen, Tuple, TupleValue, ValueTerm, ValueThen, WrapValue}
+use Rattle.core_calc.specs.Views.{bindings_of, members_of, names_of, term_of, terms_of, value_of, values_of}
+use Rattle.core_calc.specs.declared.terms.CoreBinding.{out-CoreBinding}
+use Rattle.core_calc.specs.declared.terms.GroupMember.{out-GroupMember}
+use Rattle.core_calc.specs.declared.terms.CoreBindings.{the_lemmas as bindings_lemmas}
+use Rattle.core_calc.specs.declared.terms.CoreList.{the_lemmas as terms_lemmas}
+use Rattle.core_calc.specs.declared.terms.GroupMembers.{the_lemmas as members_lemmas}
+use Rattle.core_calc.specs.declared.terms.Values.{the_lemmas as values_lemmas}
+use Rattle.calc_stepper.specs.Lists.{bindings_onto, members_onto, terms_onto, values_onto}
 use Rattle.calc_stepper.proofs.copies.+copies.Goals as goal
 
 -- each copy is of the form of what was copied, with copies of its parts
 
 if_copied : {a b c d e f : Term} → a ≡ b → c ≡ d → e ≡ f → If a c e ≡ If b d f
 if_copied p q r = λ i. If (p i) (q i) (r i)
+
+member_copied : {a b e f : ℕ} {c d : List ℕ} {g h : Term} (rest : Members) → a ≡ b → c ≡ d → g ≡ h → e ≡ f →
+    MemberThen a c g e rest ≡ MemberThen b d h f rest
+member_copied rest p q r s = λ i. MemberThen (p i) (q i) (r i) (s i) rest
 
 pub copy_term-returns-in_ok-params-in-Lambda : goal.copy_term-returns-in_ok-params-in-Lambda
 copy_term-returns-in_ok-params-in-Lambda t c =
@@ -84,3 +96,87 @@ pub copy_value-returns-in_ok-v-in-Inject : goal.copy_value-returns-in_ok-v-in-In
 copy_value-returns-in_ok-v-in-Inject t c =
     ap (λ x. InjectValue x c.in-Inject.kept.0) (c.in_ok-v-in-Inject.ensures ∙ ap value_of c.deref-in-Inject.ensures)
     ∙ sym (ap value_of c.in-Inject.is)
+
+pub copy_term-returns-in-Bool : goal.copy_term-returns-in-Bool
+copy_term-returns-in-Bool t c = sym (ap term_of c.in-Bool.is)
+
+pub copy_term-returns-in-Unit : goal.copy_term-returns-in-Unit
+copy_term-returns-in-Unit t c = sym (ap term_of c.in-Unit.is)
+
+pub copy_term-returns-in-Var : goal.copy_term-returns-in-Var
+copy_term-returns-in-Var t c = sym (ap term_of c.in-Var.is)
+
+pub copy_value-returns-in-Bool : goal.copy_value-returns-in-Bool
+copy_value-returns-in-Bool t c = sym (ap value_of c.in-Bool.is)
+
+pub copy_value-returns-in-Unit : goal.copy_value-returns-in-Unit
+copy_value-returns-in-Unit t c = sym (ap value_of c.in-Unit.is)
+
+pub copy_value-returns-in-Loc : goal.copy_value-returns-in-Loc
+copy_value-returns-in-Loc t c = sym (ap value_of c.in-Loc.is)
+
+pub copy_terms-loop-left-preserved : goal.copy_terms-loop-left-preserved
+copy_terms-loop-left-preserved t c = record {
+  whole =
+      ap₂ terms_onto (c.in_ok-done.ensures ∙ ap (λ x. TermThen x (terms_of c.loop-left.done))
+      (c.in_ok-term.ensures ∙ ap term_of c.deref.ensures)) (ap terms_of c.deref-left.ensures)
+      ∙ (rw c.in-Cons.is at c.loop-left.invariant.whole);
+  smaller = search (rules, terms_lemmas);
+}
+
+pub copy_terms-loop-left-smaller : goal.copy_terms-loop-left-smaller
+copy_terms-loop-left-smaller t c = search (rules, terms_lemmas)
+
+pub copy_terms-returns : goal.copy_terms-returns
+copy_terms-returns t c = c.terms_onto.ensures ∙ (rw c.in_default.is at c.loop-left.invariant.whole)
+
+pub copy_values-loop-left-preserved : goal.copy_values-loop-left-preserved
+copy_values-loop-left-preserved t c = record {
+  whole =
+      ap₂ values_onto (c.in_ok-done.ensures ∙ ap (λ x. ValueThen x (values_of c.loop-left.done))
+      (c.in_ok-v.ensures ∙ ap value_of c.deref.ensures)) (ap values_of c.deref-left.ensures)
+      ∙ (rw c.in-Cons.is at c.loop-left.invariant.whole);
+  smaller = search (rules, values_lemmas);
+}
+
+pub copy_values-loop-left-smaller : goal.copy_values-loop-left-smaller
+copy_values-loop-left-smaller t c = search (rules, values_lemmas)
+
+pub copy_values-returns : goal.copy_values-returns
+copy_values-returns t c = c.values_onto.ensures ∙ (rw c.in_default.is at c.loop-left.invariant.whole)
+
+pub copy_members-loop-left-smaller : goal.copy_members-loop-left-smaller
+copy_members-loop-left-smaller t c = search (rules, members_lemmas)
+
+pub copy_members-returns : goal.copy_members-returns
+copy_members-returns t c = c.members_onto.ensures ∙ (rw c.in_default.is at c.loop-left.invariant.whole)
+
+pub copy_bindings-loop-left-smaller : goal.copy_bindings-loop-left-smaller
+copy_bindings-loop-left-smaller t c = search (rules, bindings_lemmas)
+
+pub copy_bindings-returns : goal.copy_bindings-returns
+copy_bindings-returns t c = c.bindings_onto.ensures ∙ (rw c.in_default.is at c.loop-left.invariant.whole)
+
+pub copy_members-loop-left-preserved : goal.copy_members-loop-left-preserved
+copy_members-loop-left-preserved t c = record {
+  whole =
+      ap₂ members_onto (c.in_ok-done.ensures
+      ∙ member_copied (members_of c.loop-left.done)
+      (ap (λ x. (out-GroupMember x).name.0) c.deref-in-Cons-2.ensures)
+      (ap names_of c.in_ok-params.ensures ∙ ap (λ x. names_of (out-GroupMember x).params) c.deref.ensures)
+      (c.in_ok-body.ensures ∙ ap (λ x. term_of (out-GroupMember x).body) c.deref-in-Cons.ensures)
+      (ap (λ x. (out-GroupMember x).ty.0) c.deref-in-Cons-3.ensures)) (ap members_of c.deref-left.ensures)
+      ∙ (rw c.in-Cons.is at c.loop-left.invariant.whole);
+  smaller = search (rules, members_lemmas);
+}
+
+pub copy_bindings-loop-left-preserved : goal.copy_bindings-loop-left-preserved
+copy_bindings-loop-left-preserved t c = record {
+  whole =
+      ap₂ bindings_onto (c.in_ok-done.ensures
+      ∙ ap₂ (λ (n : ℕ) (x : Term). BindingThen n x (bindings_of c.loop-left.done))
+      (ap (λ x. (out-CoreBinding x).name.0) c.deref-in-Cons.ensures)
+      (c.in_ok-value.ensures ∙ ap (λ x. term_of (out-CoreBinding x).value) c.deref.ensures))
+      (ap bindings_of c.deref-left.ensures) ∙ (rw c.in-Cons.is at c.loop-left.invariant.whole);
+  smaller = search (rules, bindings_lemmas);
+}

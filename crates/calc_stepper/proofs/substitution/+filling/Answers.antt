@@ -1,9 +1,32 @@
-use Rattle.std.proofs.Common.{ap, ap₂}
-use Rattle.core_calc.specs.Terms.{Call, Cast, Enter, Group, Lambda, Let, Prim, Proj, ProjDyn, Seq, Tuple}
+use Rattle.std.proofs.Common.{◌≡◌, ◌∙◌, ap, ap₂}
+use Rattle.core_calc.specs.Terms.{Call, Cast, Enter, Group, If, Lambda, Let, Prim, Proj, ProjDyn, Seq, Term, Tuple}
 use Rattle.core_calc.specs.Views.{names_of, term_of}
 use Rattle.calc_stepper.proofs.substitution.+filling.Goals as goal
 
 -- the parts of a term are filled in order, each with what those before it leave
+
+if_filled : {a b c d e f : Term} → a ≡ b → c ≡ d → e ≡ f → If a c e ≡ If b d f
+if_filled p q r = λ i. If (p i) (q i) (r i)
+
+pub fill-returns-in-If : goal.fill-returns-in-If
+fill-returns-in-If t c = record {
+  term = rw (
+    ap term_of c.in-If.is,
+    ← c.deref_mut-in-If.ensures.value,
+    ← c.fill-in-If.ensures.holes,
+    ← c.deref_mut-in-If-2.ensures.value,
+    ← c.fill-in-If-2.ensures.holes,
+    ← c.deref_mut-in-If-3.ensures.value,
+  ) (if_filled c.fill-in-If.ensures.term c.fill-in-If-2.ensures.term c.fill-in-If-3.ensures.term);
+  holes = rw (
+    ap term_of c.in-If.is,
+    ← c.deref_mut-in-If.ensures.value,
+    ← c.fill-in-If.ensures.holes,
+    ← c.deref_mut-in-If-2.ensures.value,
+    ← c.fill-in-If-2.ensures.holes,
+    ← c.deref_mut-in-If-3.ensures.value,
+  ) c.fill-in-If-3.ensures.holes;
+}
 
 pub fill-returns-in-Lambda : goal.fill-returns-in-Lambda
 fill-returns-in-Lambda t c = record {
@@ -26,6 +49,24 @@ fill-returns-in-Let t c = record {
       (ap₂ Let c.fill_bindings.ensures.bindings c.fill-in-Let.ensures.term);
   holes = rw (ap term_of c.in-Let.is, ← c.fill_bindings.ensures.holes, ← c.deref_mut-in-Let.ensures.value)
       c.fill-in-Let.ensures.holes;
+}
+
+pub fill_terms-returns : goal.fill_terms-returns
+fill_terms-returns t c = record {
+  terms = c.terms_onto.ensures ∙ (rw c.in_default.is at c.loop-left.invariant.whole);
+  holes = rw c.in_default.is at c.loop-left.invariant.rest;
+}
+
+pub fill_members-returns : goal.fill_members-returns
+fill_members-returns t c = record {
+  members = c.members_onto.ensures ∙ (rw c.in_default.is at c.loop-left.invariant.whole);
+  holes = rw c.in_default.is at c.loop-left.invariant.rest;
+}
+
+pub fill_bindings-returns : goal.fill_bindings-returns
+fill_bindings-returns t c = record {
+  bindings = c.bindings_onto.ensures ∙ (rw c.in_default.is at c.loop-left.invariant.whole);
+  holes = rw c.in_default.is at c.loop-left.invariant.rest;
 }
 
 pub fill-returns-in-Call : goal.fill-returns-in-Call

@@ -1,10 +1,17 @@
-use Rattle.std.proofs.Common.{ℕ, suc, max, [], ◌∷◌, ◌++◌}
+use Rattle.std.proofs.Common.{◌≡◌, ◌≤◌, ℕ, suc, max, List, [], ◌∷◌, ◌++◌, ap, ◌∙◌, arith}
+use Rattle.grift_base.specs.Types.{TypeRows, FunRow, TupleRow, RefRow, VectRow}
 use Rattle.grift_base.specs.declared.places.TypeId.{TypeId}
+use Rattle.surface_trees.specs.Trees.{TypeExpr, TypeExprs, FunType, TupleType, RefType, VectType}
 use Rattle.surface_trees.specs.Views.{type_of, types_of}
+use Rattle.type_graph.specs.Forming.{intern}
 use Rattle.type_graph.specs.Rows.{places_of}
-use Rattle.cast_insert.specs.Programs.{depth_of, depth_of_all}
+use Rattle.cast_insert.specs.Programs.{NodeHasWidths, depth_of, depth_of_all}
+use Rattle.cast_insert.specs.WrittenTypes.{form_node, form_type, form_types}
 use Rattle.cast_insert.specs.Room.{IsWithin, StandsOn}
 use Rattle.cast_insert.proofs.Room.{if_ok_more, all_within_later, function_within, stands_within}
+use Rattle.cast_insert.proofs.Room.{all_within_parts, all_within_push, fun_fits, grows_last, grows_on}
+use Rattle.cast_insert.proofs.Room.{none_within, ref_fits}
+use Rattle.cast_insert.proofs.Room.{tuple_fits, vect_fits, within_part}
 use Rattle.cast_insert.proofs.written.+form.Goals as goal
 
 pub form_node-returns-in_ok-result-in-Fun-clause-within : goal.form_node-returns-in_ok-result-in-Fun-clause-within
@@ -31,3 +38,138 @@ form_node-returns-in_ok-parts-in-Tuple-clause-within t c =
     rw c.in-Tuple.is (if_ok_more (λ (ty : TypeId). StandsOn old parts new ty.0)
     (λ (ty : TypeId). IsWithin new (suc most) ty.0) c.put-in-Tuple.result c.put-in-Tuple.ensures.stands
     (λ ty h. stands_within old new most parts ty.0 c.in_ok-parts-in-Tuple.ensures.within h))
+
+-- ---- what is formed
+
+function_formed : (parameters : TypeExprs) (answer : TypeExpr) (t0 t1 t2 : TypeRows) (places : List ℕ) (place : ℕ)
+    (whole : ℕ × TypeRows) → form_types parameters t0 ≡ (places, t1) → form_type answer t1 ≡ (place, t2) →
+    intern (FunRow places place) t2 ≡ whole → form_node (FunType parameters answer) t0 ≡ whole
+function_formed parameters answer t0 t1 t2 places place whole a b c =
+    ap (λ (d : List ℕ × TypeRows). intern (FunRow d.0 (form_type answer d.1).0) (form_type answer d.1).1) a
+    ∙ ap (λ (d : ℕ × TypeRows). intern (FunRow places d.0) d.1) b ∙ c
+
+pub form_node-returns-in_ok-result-in-Fun-clause-formed : goal.form_node-returns-in_ok-result-in-Fun-clause-formed
+form_node-returns-in_ok-result-in-Fun-clause-formed t c =
+    let old = c.form_type.new.types in
+    let new = c.put-in-Fun.new.types in
+    let parameters = places_of c.in_ok-parameters-in-Fun.parameters in
+    let answer : ℕ = c.in_ok-result-in-Fun.result.0 in
+    rw c.in-Fun.is (if_ok_more (λ (ty : TypeId). intern (FunRow parameters answer) old ≡ (ty.0, new))
+    (λ (ty : TypeId). form_node (FunType (types_of c.in-Fun.parameters) (type_of c.in-Fun.result.value))
+    c.args.types.now ≡ (ty.0, new)) c.put-in-Fun.result c.put-in-Fun.ensures.formed
+    (λ ty h. function_formed (types_of c.in-Fun.parameters) (type_of c.in-Fun.result.value) _ _ _ _ _ _
+    c.in_ok-parameters-in-Fun.ensures.formed
+    (rw c.deref.ensures at c.in_ok-result-in-Fun.ensures.formed) h))
+
+pub form_node-returns-in_ok-parts-in-Tuple-clause-formed : goal.form_node-returns-in_ok-parts-in-Tuple-clause-formed
+form_node-returns-in_ok-parts-in-Tuple-clause-formed t c =
+    let old = c.form_types-in-Tuple.new.types in
+    let new = c.put-in-Tuple.new.types in
+    rw c.in-Tuple.is (if_ok_more (λ (ty : TypeId). intern (TupleRow (places_of c.in_ok-parts-in-Tuple.parts)) old
+    ≡ (ty.0, new)) (λ (ty : TypeId). form_node (TupleType (types_of c.in-Tuple.parts)) c.args.types.now ≡ (ty.0, new))
+    c.put-in-Tuple.result c.put-in-Tuple.ensures.formed
+    (λ ty h. ap (λ (d : List ℕ × TypeRows). intern (TupleRow d.0) d.1) c.in_ok-parts-in-Tuple.ensures.formed ∙ h))
+
+pub form_node-returns-in_ok-content-in-Ref-clause-formed : goal.form_node-returns-in_ok-content-in-Ref-clause-formed
+form_node-returns-in_ok-content-in-Ref-clause-formed t c =
+    let old = c.form_type-in-Ref.new.types in
+    let new = c.put-in-Ref.new.types in
+    rw c.in-Ref.is (if_ok_more (λ (ty : TypeId). intern (RefRow c.in_ok-content-in-Ref.content.0) old ≡ (ty.0, new))
+    (λ (ty : TypeId). form_node (RefType (type_of c.in-Ref.content.value)) c.args.types.now ≡ (ty.0, new))
+    c.put-in-Ref.result c.put-in-Ref.ensures.formed (λ ty h. ap (λ (d : ℕ × TypeRows). intern (RefRow d.0) d.1)
+    (rw c.deref-in-Ref.ensures at c.in_ok-content-in-Ref.ensures.formed) ∙ h))
+
+pub form_node-returns-in_ok-content-in-Vect-clause-formed : goal.form_node-returns-in_ok-content-in-Vect-clause-formed
+form_node-returns-in_ok-content-in-Vect-clause-formed t c =
+    let old = c.form_type-in-Vect.new.types in
+    let new = c.put-in-Vect.new.types in
+    rw c.in-Vect.is (if_ok_more (λ (ty : TypeId). intern (VectRow c.in_ok-content-in-Vect.content.0) old ≡ (ty.0, new))
+    (λ (ty : TypeId). form_node (VectType (type_of c.in-Vect.content.value)) c.args.types.now ≡ (ty.0, new))
+    c.put-in-Vect.result c.put-in-Vect.ensures.formed (λ ty h. ap (λ (d : ℕ × TypeRows). intern (VectRow d.0) d.1)
+    (rw c.deref-in-Vect.ensures at c.in_ok-content-in-Vect.ensures.formed) ∙ h))
+
+-- ---- tables that grow
+
+pub form_node-returns-in_ok-result-in-Fun-clause-grows : goal.form_node-returns-in_ok-result-in-Fun-clause-grows
+form_node-returns-in_ok-result-in-Fun-clause-grows t c =
+    grows_last c.put-in-Fun.result _ _ _ (grows_on _ _ _ c.in_ok-parameters-in-Fun.ensures.grows
+    c.in_ok-result-in-Fun.ensures.grows) c.put-in-Fun.ensures.grows
+
+pub form_node-returns-in_ok-parts-in-Tuple-clause-grows : goal.form_node-returns-in_ok-parts-in-Tuple-clause-grows
+form_node-returns-in_ok-parts-in-Tuple-clause-grows t c =
+    grows_last c.put-in-Tuple.result _ _ _ c.in_ok-parts-in-Tuple.ensures.grows c.put-in-Tuple.ensures.grows
+
+pub form_node-returns-in_ok-content-in-Ref-clause-grows : goal.form_node-returns-in_ok-content-in-Ref-clause-grows
+form_node-returns-in_ok-content-in-Ref-clause-grows t c =
+    grows_last c.put-in-Ref.result _ _ _ c.in_ok-content-in-Ref.ensures.grows c.put-in-Ref.ensures.grows
+
+pub form_node-returns-in_ok-content-in-Vect-clause-grows : goal.form_node-returns-in_ok-content-in-Vect-clause-grows
+form_node-returns-in_ok-content-in-Vect-clause-grows t c =
+    grows_last c.put-in-Vect.result _ _ _ c.in_ok-content-in-Vect.ensures.grows c.put-in-Vect.ensures.grows
+
+-- ---- a box and a vector are one higher than their content
+
+pub form_node-returns-in_ok-content-in-Ref-clause-within : goal.form_node-returns-in_ok-content-in-Ref-clause-within
+form_node-returns-in_ok-content-in-Ref-clause-within t c =
+    let old = c.form_type-in-Ref.new.types in
+    let new = c.put-in-Ref.new.types in
+    let most : ℕ = depth_of (type_of c.in-Ref.content.value) in
+    let content : ℕ = c.in_ok-content-in-Ref.content.0 in
+    rw c.in-Ref.is (if_ok_more (λ (ty : TypeId). StandsOn old (content ∷ []) new ty.0)
+    (λ (ty : TypeId). IsWithin new (suc most) ty.0) c.put-in-Ref.result c.put-in-Ref.ensures.stands
+    (λ ty h. stands_within old new most (content ∷ []) ty.0 (all_within_push old most [] content (none_within old most)
+    (rw c.deref-in-Ref.ensures at c.in_ok-content-in-Ref.ensures.within)) h))
+
+pub form_node-returns-in_ok-content-in-Vect-clause-within : goal.form_node-returns-in_ok-content-in-Vect-clause-within
+form_node-returns-in_ok-content-in-Vect-clause-within t c =
+    let old = c.form_type-in-Vect.new.types in
+    let new = c.put-in-Vect.new.types in
+    let most : ℕ = depth_of (type_of c.in-Vect.content.value) in
+    let content : ℕ = c.in_ok-content-in-Vect.content.0 in
+    rw c.in-Vect.is (if_ok_more (λ (ty : TypeId). StandsOn old (content ∷ []) new ty.0)
+    (λ (ty : TypeId). IsWithin new (suc most) ty.0) c.put-in-Vect.result c.put-in-Vect.ensures.stands
+    (λ ty h. stands_within old new most (content ∷ []) ty.0 (all_within_push old most [] content (none_within old most)
+    (rw c.deref-in-Vect.ensures at c.in_ok-content-in-Vect.ensures.within)) h))
+
+-- ---- rows that fit
+
+pub form_node-put-requires-in-Fun : goal.form_node-put-requires-in-Fun
+form_node-put-requires-in-Fun t c =
+    let now = c.form_type.new.types in
+    let parameters = types_of c.in-Fun.parameters in
+    let answer = type_of c.in-Fun.result.value in
+    let widths : NodeHasWidths (FunType parameters answer) = (rw c.in-Fun.is at c.requires.widths) in
+    let shallow : suc (max (depth_of_all parameters) (depth_of answer)) ≤ 200 =
+    (rw c.in-Fun.is at c.requires.shallow) in
+    fun_fits now (places_of c.in_ok-parameters-in-Fun.parameters) c.in_ok-result-in-Fun.result.0
+    (all_within_parts now (depth_of_all parameters) _ (omega arith)
+    (all_within_later c.form_types.new.types now _ _ c.in_ok-result-in-Fun.ensures.grows
+    c.in_ok-parameters-in-Fun.ensures.within))
+    (within_part now (depth_of answer) _ (omega arith) (rw c.deref.ensures at c.in_ok-result-in-Fun.ensures.within))
+    (rw c.in_ok-parameters-in-Fun.ensures.count widths.2)
+
+pub form_node-put-requires-in-Tuple : goal.form_node-put-requires-in-Tuple
+form_node-put-requires-in-Tuple t c =
+    let now = c.form_types-in-Tuple.new.types in
+    let parts = types_of c.in-Tuple.parts in
+    let widths : NodeHasWidths (TupleType parts) = (rw c.in-Tuple.is at c.requires.widths) in
+    let shallow : suc (depth_of_all parts) ≤ 200 = (rw c.in-Tuple.is at c.requires.shallow) in
+    tuple_fits now (places_of c.in_ok-parts-in-Tuple.parts)
+    (all_within_parts now (depth_of_all parts) _ (omega arith) c.in_ok-parts-in-Tuple.ensures.within)
+    (rw c.in_ok-parts-in-Tuple.ensures.count widths.1) (rw c.in_ok-parts-in-Tuple.ensures.count widths.2)
+
+pub form_node-put-requires-in-Ref : goal.form_node-put-requires-in-Ref
+form_node-put-requires-in-Ref t c =
+    let now = c.form_type-in-Ref.new.types in
+    let content = type_of c.in-Ref.content.value in
+    let shallow : suc (depth_of content) ≤ 200 = (rw c.in-Ref.is at c.requires.shallow) in
+    ref_fits now _ (within_part now (depth_of content) _ (omega arith)
+    (rw c.deref-in-Ref.ensures at c.in_ok-content-in-Ref.ensures.within))
+
+pub form_node-put-requires-in-Vect : goal.form_node-put-requires-in-Vect
+form_node-put-requires-in-Vect t c =
+    let now = c.form_type-in-Vect.new.types in
+    let content = type_of c.in-Vect.content.value in
+    let shallow : suc (depth_of content) ≤ 200 = (rw c.in-Vect.is at c.requires.shallow) in
+    vect_fits now _ (within_part now (depth_of content) _ (omega arith)
+    (rw c.deref-in-Vect.ensures at c.in_ok-content-in-Vect.ensures.within))

@@ -1,4 +1,4 @@
-use Rattle.std.proofs.Common.{◌≡◌, ℕ, zero, suc, ◌+◌, ◌<◌, ◌≤◌, Result, Ok, Err, List, length, sym, ap, ap₂}
+use Rattle.std.proofs.Common.{◌≡◌, ℕ, zero, suc, ◌+◌, ◌<◌, ◌≤◌, Result, Ok, Err, List, length, sym, ap, ap₂, None}
 use Rattle.std.proofs.Common.{◌∙◌, subst, arith}
 use Rattle.std.specs.Prelude.{All, IfOk, OnOk, slice_index, [], ◌∷◌}
 use Rattle.grift_base.specs.Types.{TypeRow, is_dyn, same_head}
@@ -6,13 +6,14 @@ use Rattle.type_graph.specs.Rows.{row_of}
 use Rattle.type_graph.specs.Trees.{height}
 use Rattle.coercion_norm.specs.declared.nodes.CoercionId.{CoercionId}
 use Rattle.coercion_norm.specs.declared.casts.Cast.{Cast}
-use Rattle.coercion_norm.specs.Coercions.{Inject, slots, slots_of, slot, rows_of}
+use Rattle.coercion_norm.specs.Coercions.{Coercion, Inject, Project, slots, slots_of, slot, rows_of, kind_of}
 use Rattle.coercion_norm.specs.Nodes.{KindHasWidth, IsTree}
 use Rattle.coercion_norm.specs.CoercionTables.{IsCast, IsSound, cast_of}
 use Rattle.coercion_norm.proofs.NodeLemmas.{same_nodes, more_nodes}
 use Rattle.coercion_norm.proofs.MadeParts.{part_tree, made_none, made_more, made_there, made_all, part_made}
 use Rattle.coercion_norm.proofs.CastLemmas.{row_is, narrow, kind_width, widths_agree, cast_is_middle, cast_sound}
-use Rattle.coercion_norm.proofs.CastLemmas.{cast_to_dyn}
+use Rattle.coercion_norm.proofs.CastLemmas.{cast_both_dyn, cast_from_dyn, cast_to_dyn, cast_same, cast_clash}
+use Rattle.coercion_norm.proofs.CastLemmas.{cast_middle}
 use Rattle.coercion_norm.proofs.CastLemmas.{part_cast_there, part_cast_falls, part_cast_is}
 use Rattle.coercion_norm.proofs.KnownCasts.{AreCasts-kept, AreCasts-insert}
 use Rattle.coercion_norm.proofs.casts.+coerce.Goals as goal
@@ -21,6 +22,14 @@ use Rattle.coercion_norm.proofs.casts.+coerce.Goals as goal
 in_any_case : {A E P : Type 0} (r : Result A E) → P → OnOk r P
 in_any_case (Ok a) h = h
 in_any_case (Err e) h = tt
+
+-- what holds of one holds of all of one, and anything of all of none
+all_none : (P : ℕ → Type 0) → All P []
+all_none P k d l = absurd (omega arith)
+
+all_one : (P : ℕ → Type 0) (x : ℕ) → P x → All P (x ∷ [])
+all_one P x h zero d l = h
+all_one P x h (suc k) d l = absurd (omega arith)
 
 pub coerce_known-returns-in-Some-clause-made : goal.coerce_known-returns-in-Some-clause-made
 coerce_known-returns-in-Some-clause-made t c =
@@ -202,10 +211,106 @@ coerce_solid-returns-in_ok-parts-in-Some-clause-known t c =
     c.coerce_parts.new.known c.len-in-Some.ensures.nodes.ordered.before c.intern_middle.ensures.grows
     c.in_ok-parts-in-Some.ensures.known)
 
--- what holds of one holds of all of one
-all_one : (P : ℕ → Type 0) (x : ℕ) → P x → All P (x ∷ [])
-all_one P x h zero d l = h
-all_one P x h (suc k) d l = absurd (omega arith)
+pub coerce_known-returns-in-Some-clause-grows : goal.coerce_known-returns-in-Some-clause-grows
+coerce_known-returns-in-Some-clause-grows t c = same_nodes c.args.table.now.nodes
+
+pub coerce_parts-returns-in_err-c-clause-grows : goal.coerce_parts-returns-in_err-c-clause-grows
+coerce_parts-returns-in_err-c-clause-grows t c =
+    more_nodes c.args.table.now.nodes c.loop-j.table.nodes c.coerce_known.new.table.nodes c.loop-j.invariant.grows
+    c.coerce_known.ensures.grows
+
+pub coerce_solid-returns-then-eq-clause-made : goal.coerce_solid-returns-then-eq-clause-made
+coerce_solid-returns-then-eq-clause-made t c =
+    subst (IsTree c.args.table.now.nodes c.id.result.0)
+    (sym (cast_same c.args.types.now c.len.ensures.table c.args.cast.from.0 c.args.cast.to.0 c.args.cast.label.0
+    c.requires.from_solid c.requires.to_solid (sym c.eq.ensures ∙ c.if-eq.true))) c.id.ensures
+
+pub coerce_solid-returns-then-eq-clause-grows : goal.coerce_solid-returns-then-eq-clause-grows
+coerce_solid-returns-then-eq-clause-grows t c = same_nodes c.args.table.now.nodes
+
+pub coerce_solid-intern_node-requires-clause-node : goal.coerce_solid-intern_node-requires-clause-node
+coerce_solid-intern_node-requires-clause-node t c = record {
+  parts = all_none (λ part. part < length c.args.table.now.nodes);
+  types_there = all_none (λ type. type < length c.args.types.now);
+  width = tt;
+  sound = subst (IsSound c.args.types.now)
+      (cast_clash c.args.types.now c.len.ensures.table c.args.cast.from.0 c.args.cast.to.0 c.args.cast.label.0
+      c.requires.from_solid c.requires.to_solid (sym c.eq.ensures ∙ c.if-eq.false)
+      (ap₂ same_head (row_is c.args.types.now c.args.cast.from.0 (row_of c.row-from.result.now) c.row-from.ensures)
+      (row_is c.args.types.now c.args.cast.to.0 (row_of c.row.result.now) c.row.ensures)
+      ∙ sym c.same_head.ensures ∙ c.if-not-same_head.true))
+      (cast_sound c.args.types.now c.len.ensures.table c.args.cast.from.0 c.args.cast.to.0 c.args.cast.label.0
+      c.requires.cast.from_there c.requires.cast.to_there);
+}
+
+pub coerce_solid-returns-then-not-same_head-clause-made : goal.coerce_solid-returns-then-not-same_head-clause-made
+coerce_solid-returns-then-not-same_head-clause-made t c =
+    subst (λ (x : Coercion). IfOk c.intern_node.result
+    (λ (r : CoercionId). IsTree c.intern_node.new.self.nodes r.0 x))
+    (sym (cast_clash c.args.types.now c.len.ensures.table c.args.cast.from.0 c.args.cast.to.0 c.args.cast.label.0
+    c.requires.from_solid c.requires.to_solid (sym c.eq.ensures ∙ c.if-eq.false)
+    (ap₂ same_head (row_is c.args.types.now c.args.cast.from.0 (row_of c.row-from.result.now) c.row-from.ensures)
+    (row_is c.args.types.now c.args.cast.to.0 (row_of c.row.result.now) c.row.ensures)
+    ∙ sym c.same_head.ensures ∙ c.if-not-same_head.true))) c.intern_node.ensures.tree
+
+pub coerce_solid-returns-in-None-clause-made : goal.coerce_solid-returns-in-None-clause-made
+coerce_solid-returns-in-None-clause-made t c =
+    subst (IsTree c.args.table.now.nodes c.id-in-None.result.0)
+    (sym (cast_middle c.args.types.now c.len.ensures.table c.args.cast.from.0 c.args.cast.to.0 c.args.cast.label.0
+    c.requires.from_solid c.requires.to_solid None (sym c.eq.ensures ∙ c.if-eq.false)
+    (ap₂ same_head (row_is c.args.types.now c.args.cast.from.0 (row_of c.row-from.result.now) c.row-from.ensures)
+    (row_is c.args.types.now c.args.cast.to.0 (row_of c.row.result.now) c.row.ensures)
+    ∙ sym c.same_head.ensures ∙ c.if-not-same_head.false)
+    (ap kind_of (row_is c.args.types.now c.args.cast.from.0 (row_of c.row-from.result.now) c.row-from.ensures)
+    ∙ sym c.kind_of.ensures ∙ c.in-None.is))) c.id-in-None.ensures
+
+pub coerce_solid-returns-in-None-clause-grows : goal.coerce_solid-returns-in-None-clause-grows
+coerce_solid-returns-in-None-clause-grows t c = same_nodes c.args.table.now.nodes
+
+pub coerce_solid-returns-in_ok-parts-in-Some-clause-grows : goal.coerce_solid-returns-in_ok-parts-in-Some-clause-grows
+coerce_solid-returns-in_ok-parts-in-Some-clause-grows t c =
+    more_nodes c.args.table.now.nodes c.coerce_parts.new.table.nodes c.intern_middle.new.self.nodes
+    c.in_ok-parts-in-Some.ensures.grows c.intern_middle.ensures.grows
+
+pub coerce_rows-returns-then-to_dyn-clause-made : goal.coerce_rows-returns-then-to_dyn-clause-made
+coerce_rows-returns-then-to_dyn-clause-made t c =
+    subst (IsTree c.args.table.now.nodes c.id-id.result.0)
+    (sym (cast_both_dyn c.args.types.now c.len.ensures.table c.args.cast.from.0 c.args.cast.to.0 c.args.cast.label.0
+    (ap is_dyn (row_is c.args.types.now c.args.cast.from.0 (row_of c.row.result.now) c.row.ensures)
+    ∙ sym c.is_dyn-from_dyn.ensures ∙ c.if-from_dyn.true)
+    (ap is_dyn (row_is c.args.types.now c.args.cast.to.0 (row_of c.row-2.result.now) c.row-2.ensures)
+    ∙ sym c.is_dyn-to_dyn.ensures ∙ c.if-to_dyn.true))) c.id-id.ensures
+
+pub coerce_rows-returns-then-to_dyn-clause-grows : goal.coerce_rows-returns-then-to_dyn-clause-grows
+coerce_rows-returns-then-to_dyn-clause-grows t c = same_nodes c.args.table.now.nodes
+
+pub coerce_rows-intern_node-requires-clause-node : goal.coerce_rows-intern_node-requires-clause-node
+coerce_rows-intern_node-requires-clause-node t c = record {
+  parts = all_one (λ part. part < length c.args.table.now.nodes) c.id-id.result.0 c.id-id.ensures.within;
+  types_there = all_one (λ type. type < length c.args.types.now) c.args.cast.to.0 c.requires.cast.to_there;
+  width = tt;
+  sound = subst (IsSound c.args.types.now)
+      (cast_from_dyn c.args.types.now c.len.ensures.table c.args.cast.from.0 c.args.cast.to.0 c.args.cast.label.0
+      (ap is_dyn (row_is c.args.types.now c.args.cast.from.0 (row_of c.row.result.now) c.row.ensures)
+      ∙ sym c.is_dyn-from_dyn.ensures ∙ c.if-from_dyn.true)
+      (ap is_dyn (row_is c.args.types.now c.args.cast.to.0 (row_of c.row-2.result.now) c.row-2.ensures)
+      ∙ sym c.is_dyn-to_dyn.ensures ∙ c.if-to_dyn.false)
+      ∙ ap (λ x. Project c.args.cast.to.0 c.args.cast.label.0 x) (sym c.id-id.ensures.is))
+      (cast_sound c.args.types.now c.len.ensures.table c.args.cast.from.0 c.args.cast.to.0 c.args.cast.label.0
+      c.requires.cast.from_there c.requires.cast.to_there);
+}
+
+pub coerce_rows-returns-then-from_dyn-clause-made : goal.coerce_rows-returns-then-from_dyn-clause-made
+coerce_rows-returns-then-from_dyn-clause-made t c =
+    subst (λ x. IfOk c.intern_node.result
+    (λ (r : CoercionId). IsTree c.intern_node.new.self.nodes r.0 x))
+    (sym (cast_from_dyn c.args.types.now c.len.ensures.table c.args.cast.from.0 c.args.cast.to.0 c.args.cast.label.0
+    (ap is_dyn (row_is c.args.types.now c.args.cast.from.0 (row_of c.row.result.now) c.row.ensures)
+    ∙ sym c.is_dyn-from_dyn.ensures ∙ c.if-from_dyn.true)
+    (ap is_dyn (row_is c.args.types.now c.args.cast.to.0 (row_of c.row-2.result.now) c.row-2.ensures)
+    ∙ sym c.is_dyn-to_dyn.ensures ∙ c.if-to_dyn.false)
+    ∙ ap (λ x. Project c.args.cast.to.0 c.args.cast.label.0 x) (sym c.id-id.ensures.is)))
+    c.intern_node.ensures.tree
 
 pub coerce_rows-returns-then-from_dyn-clause-known : goal.coerce_rows-returns-then-from_dyn-clause-known
 coerce_rows-returns-then-from_dyn-clause-known t c =
