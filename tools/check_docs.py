@@ -89,7 +89,7 @@ def faults_of_names(page):
 
 def faults_of_refusals():
     """Kinds of refusals that stand in the program or in the table of the page alone."""
-    there = set(re.findall(r'RefusalKind::\w+ => "([a-z-]+)"', REFUSALS.read_text()))
+    there = set(re.findall(r'RefusalKind::\w+ => \(\d+, "([a-z-]+)"\)', REFUSALS.read_text()))
     told = set(explain.advice())
     yield from (f"the table of refusals lacks {kind}" for kind in sorted(there - told))
     yield from (f"the table of refusals has {kind}, which is none" for kind in sorted(told - there))

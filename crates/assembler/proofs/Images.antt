@@ -88,20 +88,9 @@ is_image statics code labels s =
     let code_whole = s.code_whole in
     let some_code = s.some_code in
     let few = s.few_labels in
-    record {
-      header = omega arith;
-      magic = refl;
-      whole = omega arith;
-      statics = omega arith;
-      code = omega arith;
-      some_code = omega arith;
-      labels = omega arith;
-      entry_place = omega arith;
-      entry_inside = omega arith;
-      spare = spare_field statics code labels;
-      last_spare = last_spare_field statics code labels;
-      sections = omega arith;
-    }
+    let spare = spare_field statics code labels in
+    let last_spare = last_spare_field statics code labels in
+    search arith
 
 -- ---- what lies in memory
 

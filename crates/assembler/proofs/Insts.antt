@@ -10,7 +10,7 @@ use Rattle.rv_isa.specs.Decoding.{decode_of}
 use Rattle.rv_machine.specs.declared.real.RealItem.{RealItem}
 use Rattle.rv_machine.specs.declared.real.RealItem.TheVariants.{Op, Mark, Jump, Branch, Address}
 use Rattle.rv_isa.specs.Encoding.{encode_of}
-use Rattle.assembler.specs.Layout.{longest, width, is_near, longest_widths, widths_from, address_of}
+use Rattle.assembler.specs.Layout.{width, is_near, longest_widths, widths_from, address_of}
 use Rattle.assembler.specs.Expansion.{insts_of, item_insts, insts_from, target_of, code_insts}
 use Rattle.assembler.specs.Imaging.{inst_words}
 use Rattle.assembler.specs.Conditions.{is_mark}
@@ -69,7 +69,7 @@ item_long false here target (Jump rd mark) = refl
 item_long false here target (Branch cond a b mark) = refl
 item_long false here target (Address rd mark) = refl
 
-longest_small : (item : RealItem) → longest item ≤ 11
+longest_small : (item : RealItem) → width false item ≤ 11
 longest_small (Op i) = omega arith
 longest_small (Mark mark) = omega arith
 longest_small (Jump rd mark) = omega arith
@@ -181,6 +181,20 @@ widths_upto items start place item h e =
     ∙ ap (λ k. widths_from (longest_widths items) items start 0 (take place items)
     ++ width (is_near (longest_widths items) items start k item) item ∷ []) n
 
+-- with one width more the sums are those of all
+sums_grow : (ws all : List ℕ) (place : ℕ) (sums old_sums : List ℕ) (before w : ℕ) → all ≡ ws ++ w ∷ []
+    → length ws ≡ place → HoldsSums old_sums ws → before ≡ sum ws → before ≤ 11 * place → w ≤ 11
+    → sums ≡ old_sums ++ (before + w) ∷ []
+    → HoldsSums sums all × (before + w ≡ sum all) × (before + w ≤ 11 * (place + 1))
+sums_grow ws all place sums old_sums before w more long s eb few small grown =
+    let total : before + w ≡ sum ws + w = ap (λ n. n + w) eb in (
+      subst (λ (xs : List ℕ). HoldsSums sums xs) (sym more)
+          (subst (λ (xs : List ℕ). HoldsSums xs (ws ++ w ∷ [])) (sym grown)
+          (sums_more old_sums ws w (before + w) s total (omega arith))),
+      total ∙ sym (sum_push ws w) ∙ ap sum (sym more),
+      omega arith,
+    )
+
 pub sums_upto : (items : List RealItem) (start place : ℕ) (item : RealItem) (sums old_sums : List ℕ) (before w : ℕ)
     → place < length items → item ≡ get_or items place item
     → w ≡ width (is_near (longest_widths items) items start place item) item
@@ -192,16 +206,26 @@ pub sums_upto : (items : List RealItem) (start place : ℕ) (item : RealItem) (s
     × (before + w ≤ 11 * (place + 1))
 sums_upto items start place item sums old_sums before w h e ew s eb few small grown =
     let ws = widths_from (longest_widths items) items start 0 (take place items) in
-    let more = widths_upto items start place item h e ∙ ap (λ n. ws ++ n ∷ []) (sym ew) in
-    let long : length ws ≡ place = widths_long (longest_widths items) items start 0 (take place items)
-    ∙ length-take-le place items (omega arith) in
-    let total : before + w ≡ sum ws + w = ap (λ n. n + w) eb in (
-      subst (λ (xs : List ℕ). HoldsSums sums xs) (sym more)
-          (subst (λ (xs : List ℕ). HoldsSums xs (ws ++ w ∷ [])) (sym grown)
-          (sums_more old_sums ws w (before + w) s total (omega arith))),
-      total ∙ sym (sum_push ws w) ∙ ap sum (sym more),
-      omega arith,
-    )
+    sums_grow ws _ place sums old_sums before w
+    (widths_upto items start place item h e ∙ ap (λ n. ws ++ n ∷ []) (sym ew))
+    (widths_long (longest_widths items) items start 0 (take place items)
+    ∙ length-take-le place items (omega arith)) s eb few small grown
+
+-- so it is if every item has its longest form
+pub longest_upto : (items : List RealItem) (place : ℕ) (item : RealItem) (sums old_sums : List ℕ) (before w : ℕ)
+    → place < length items → item ≡ get_or items place item → w ≡ width false item
+    → HoldsSums old_sums (longest_widths (take place items)) → before ≡ sum (longest_widths (take place items))
+    → before ≤ 11 * place → w ≤ 11 → sums ≡ old_sums ++ (before + w) ∷ []
+    → HoldsSums sums (longest_widths (take (place + 1) items))
+    × (before + w ≡ sum (longest_widths (take (place + 1) items))) × (before + w ≤ 11 * (place + 1))
+longest_upto items place item sums old_sums before w h e ew s eb few small grown =
+    let front = take place items in
+    let one : take (place + 1) items ≡ front ++ item ∷ [] = take_more items place item h
+    ∙ ap (λ x. front ++ x ∷ []) (sym e) in
+    sums_grow (longest_widths front) _ place sums old_sums before w
+    (ap longest_widths one ∙ map-append (width false) front (item ∷ [])
+    ∙ ap (λ n. longest_widths front ++ n ∷ []) (sym ew))
+    (length-map front (width false) ∙ length-take-le place items (omega arith)) s eb few small grown
 
 pub insts_upto : (items : List RealItem) (start place : ℕ) (item : RealItem) → place < length items
     → item ≡ get_or items place item → insts_from items start 0 (take place items)

@@ -30,6 +30,7 @@ use Rattle.rv_machine.specs.Turn.{next_pc, put}
 use Rattle.rv_machine.specs.Turn.{load_into, store_from, branch_if, jump_and_link, blames, comes_to, called}
 use Rattle.rv_machine.specs.Turn.{call_environment, act_with, act}
 use Rattle.machine_words.proofs.Public.{stored_outside}
+use Rattle.rv_machine.proofs.Public.{each_act}
 use Rattle.assembler.specs.Conditions.{registers_of, is_relative}
 use Rattle.assembler.specs.Following.{IsLike, ComeToLike, LeavesCode, CanBeCall}
 
@@ -132,6 +133,25 @@ like_jump rd target other s t l e p =
     )
     (ap (λ pc. GoesWrong (Misaligned pc)) e)
 
+like_computed : (f : ℕ → ℕ) (rd a : ℕ) (s t : State) → IsLike s t → s.pc ≡ t.pc → ¬ Contains (rd ∷ a ∷ []) 31
+    → ComeToLike (put rd (f (reg s a)) s) (put rd (f (reg t a)) t)
+like_computed f rd a s t l e h = like_put rd (f (reg s a)) (f (reg t a)) s t l e (like_one f rd a s t l h)
+
+like_of_two : (f : ℕ → ℕ → ℕ) (rd a b : ℕ) (s t : State) → IsLike s t → s.pc ≡ t.pc
+    → ¬ Contains (rd ∷ a ∷ b ∷ []) 31
+    → ComeToLike (put rd (f (reg s a) (reg s b)) s) (put rd (f (reg t a) (reg t b)) t)
+like_of_two f rd a b s t l e h = like_put rd _ _ s t l e (like_two f rd a b s t l h)
+
+like_loaded : (signed : Bool) (w : Width) (rd a : ℕ) (n : ℤ) (s t : State) → IsLike s t → s.pc ≡ t.pc
+    → ¬ Contains (rd ∷ a ∷ []) 31
+    → ComeToLike (load_into signed w rd (plus (reg s a) n) s) (load_into signed w rd (plus (reg t a) n) t)
+like_loaded signed w rd a n s t l e h = like_load signed w rd _ _ s t l e (like_one (λ x. plus x n) rd a s t l h)
+
+like_stored : (w : Width) (b a : ℕ) (n : ℤ) (s t : State) → IsLike s t → s.pc ≡ t.pc → ¬ Contains (b ∷ a ∷ []) 31
+    → ComeToLike (store_from w (reg s b) (plus (reg s a) n) s) (store_from w (reg t b) (plus (reg t a) n) t)
+like_stored w b a n s t l e h =
+    like_store w _ _ _ _ s t l e (like_reg b s t l (first b (a ∷ []) h)) (like_one (λ x. plus x n) b a s t l h)
+
 module _ (ecall ebreak : State → Turn) where
   module _ (ok_ecall : CanBeCall ecall) (ok_ebreak : CanBeCall ebreak) where
     pub like_act : (i : Inst) → is_relative i ≡ false → ¬ Contains (registers_of i) 31 → (s t : State) → IsLike s t
@@ -147,88 +167,45 @@ module _ (ecall ebreak : State → Turn) where
     like_act (Bge a b n) r h s t l e = absurd (true≢false r)
     like_act (Bltu a b n) r h s t l e = absurd (true≢false r)
     like_act (Bgeu a b n) r h s t l e = absurd (true≢false r)
-    like_act (Lb rd a n) r h s t l e =
-        like_load true w8 rd _ _ s t l e (like_one (λ x. plus x n) rd a s t l h)
-    like_act (Lh rd a n) r h s t l e =
-        like_load true w16 rd _ _ s t l e (like_one (λ x. plus x n) rd a s t l h)
-    like_act (Lw rd a n) r h s t l e =
-        like_load true w32 rd _ _ s t l e (like_one (λ x. plus x n) rd a s t l h)
-    like_act (Ld rd a n) r h s t l e =
-        like_load false w64 rd _ _ s t l e (like_one (λ x. plus x n) rd a s t l h)
-    like_act (Lbu rd a n) r h s t l e =
-        like_load false w8 rd _ _ s t l e (like_one (λ x. plus x n) rd a s t l h)
-    like_act (Lhu rd a n) r h s t l e =
-        like_load false w16 rd _ _ s t l e (like_one (λ x. plus x n) rd a s t l h)
-    like_act (Lwu rd a n) r h s t l e =
-        like_load false w32 rd _ _ s t l e (like_one (λ x. plus x n) rd a s t l h)
-    like_act (Sb b a n) r h s t l e =
-        like_store w8 _ _ _ _ s t l e (like_reg b s t l (first b (a ∷ []) h))
-        (like_one (λ x. plus x n) b a s t l h)
-    like_act (Sh b a n) r h s t l e =
-        like_store w16 _ _ _ _ s t l e (like_reg b s t l (first b (a ∷ []) h))
-        (like_one (λ x. plus x n) b a s t l h)
-    like_act (Sw b a n) r h s t l e =
-        like_store w32 _ _ _ _ s t l e (like_reg b s t l (first b (a ∷ []) h))
-        (like_one (λ x. plus x n) b a s t l h)
-    like_act (Sd b a n) r h s t l e =
-        like_store w64 _ _ _ _ s t l e (like_reg b s t l (first b (a ∷ []) h))
-        (like_one (λ x. plus x n) b a s t l h)
-    like_act (Addi rd a n) r h s t l e =
-        like_put rd _ _ s t l e (like_one (λ x. plus x n) rd a s t l h)
-    like_act (Slti rd a n) r h s t l e =
-        like_put rd _ _ s t l e (like_one (λ x. flag (int_lt (signed_of x) n)) rd a s t l h)
-    like_act (Sltiu rd a n) r h s t l e =
-        like_put rd _ _ s t l e (like_one (λ x. flag (nat_lt x (word_of n))) rd a s t l h)
-    like_act (Xori rd a n) r h s t l e =
-        like_put rd _ _ s t l e (like_one (λ x. bit_xor x (word_of n)) rd a s t l h)
-    like_act (Ori rd a n) r h s t l e =
-        like_put rd _ _ s t l e (like_one (λ x. bit_or x (word_of n)) rd a s t l h)
-    like_act (Andi rd a n) r h s t l e =
-        like_put rd _ _ s t l e (like_one (λ x. bit_and x (word_of n)) rd a s t l h)
-    like_act (Slli rd a n) r h s t l e =
-        like_put rd _ _ s t l e (like_one (λ x. shift_left x n) rd a s t l h)
-    like_act (Srli rd a n) r h s t l e =
-        like_put rd _ _ s t l e (like_one (λ x. shift_right x n) rd a s t l h)
-    like_act (Srai rd a n) r h s t l e =
-        like_put rd _ _ s t l e (like_one (λ x. shift_right_signed x n) rd a s t l h)
-    like_act (Add rd a b) r h s t l e =
-        like_put rd _ _ s t l e (like_two (λ x y. add x y) rd a b s t l h)
-    like_act (Sub rd a b) r h s t l e =
-        like_put rd _ _ s t l e (like_two (λ x y. subtract x y) rd a b s t l h)
-    like_act (Sll rd a b) r h s t l e =
-        like_put rd _ _ s t l e (like_two (λ x y. shift_left x (y % 64)) rd a b s t l h)
-    like_act (Slt rd a b) r h s t l e =
-        like_put rd _ _ s t l e (like_two (λ x y. flag (signed_less x y)) rd a b s t l h)
-    like_act (Sltu rd a b) r h s t l e =
-        like_put rd _ _ s t l e (like_two (λ x y. flag (nat_lt x y)) rd a b s t l h)
-    like_act (Xor rd a b) r h s t l e =
-        like_put rd _ _ s t l e (like_two (λ x y. bit_xor x y) rd a b s t l h)
-    like_act (Srl rd a b) r h s t l e =
-        like_put rd _ _ s t l e (like_two (λ x y. shift_right x (y % 64)) rd a b s t l h)
-    like_act (Sra rd a b) r h s t l e =
-        like_put rd _ _ s t l e (like_two (λ x y. shift_right_signed x (y % 64)) rd a b s t l h)
-    like_act (Or rd a b) r h s t l e =
-        like_put rd _ _ s t l e (like_two (λ x y. bit_or x y) rd a b s t l h)
-    like_act (And rd a b) r h s t l e =
-        like_put rd _ _ s t l e (like_two (λ x y. bit_and x y) rd a b s t l h)
-    like_act (Addiw rd a n) r h s t l e =
-        like_put rd _ _ s t l e (like_one (λ x. half (plus x n)) rd a s t l h)
-    like_act (Slliw rd a n) r h s t l e =
-        like_put rd _ _ s t l e (like_one (λ x. half (low_half x * 2 ^ n)) rd a s t l h)
-    like_act (Srliw rd a n) r h s t l e =
-        like_put rd _ _ s t l e (like_one (λ x. half (low_half x / 2 ^ n)) rd a s t l h)
-    like_act (Sraiw rd a n) r h s t l e =
-        like_put rd _ _ s t l e (like_one (λ x. half_right_signed x n) rd a s t l h)
-    like_act (Addw rd a b) r h s t l e =
-        like_put rd _ _ s t l e (like_two (λ x y. half (add x y)) rd a b s t l h)
-    like_act (Subw rd a b) r h s t l e =
-        like_put rd _ _ s t l e (like_two (λ x y. half (subtract x y)) rd a b s t l h)
-    like_act (Sllw rd a b) r h s t l e =
-        like_put rd _ _ s t l e (like_two (λ x y. half (low_half x * 2 ^ (y % 32))) rd a b s t l h)
-    like_act (Srlw rd a b) r h s t l e =
-        like_put rd _ _ s t l e (like_two (λ x y. half (low_half x / 2 ^ (y % 32))) rd a b s t l h)
-    like_act (Sraw rd a b) r h s t l e =
-        like_put rd _ _ s t l e (like_two (λ x y. half_right_signed x (y % 32)) rd a b s t l h)
+    like_act (Lb rd a n) r h s t l e = like_loaded true w8 rd a n s t l e h
+    like_act (Lh rd a n) r h s t l e = like_loaded true w16 rd a n s t l e h
+    like_act (Lw rd a n) r h s t l e = like_loaded true w32 rd a n s t l e h
+    like_act (Ld rd a n) r h s t l e = like_loaded false w64 rd a n s t l e h
+    like_act (Lbu rd a n) r h s t l e = like_loaded false w8 rd a n s t l e h
+    like_act (Lhu rd a n) r h s t l e = like_loaded false w16 rd a n s t l e h
+    like_act (Lwu rd a n) r h s t l e = like_loaded false w32 rd a n s t l e h
+    like_act (Sb b a n) r h s t l e = like_stored w8 b a n s t l e h
+    like_act (Sh b a n) r h s t l e = like_stored w16 b a n s t l e h
+    like_act (Sw b a n) r h s t l e = like_stored w32 b a n s t l e h
+    like_act (Sd b a n) r h s t l e = like_stored w64 b a n s t l e h
+    like_act (Addi rd a n) r h s t l e = like_computed (λ x. plus x n) rd a s t l e h
+    like_act (Slti rd a n) r h s t l e = like_computed (λ x. flag (int_lt (signed_of x) n)) rd a s t l e h
+    like_act (Sltiu rd a n) r h s t l e = like_computed (λ x. flag (nat_lt x (word_of n))) rd a s t l e h
+    like_act (Xori rd a n) r h s t l e = like_computed (λ x. bit_xor x (word_of n)) rd a s t l e h
+    like_act (Ori rd a n) r h s t l e = like_computed (λ x. bit_or x (word_of n)) rd a s t l e h
+    like_act (Andi rd a n) r h s t l e = like_computed (λ x. bit_and x (word_of n)) rd a s t l e h
+    like_act (Slli rd a n) r h s t l e = like_computed (λ x. shift_left x n) rd a s t l e h
+    like_act (Srli rd a n) r h s t l e = like_computed (λ x. shift_right x n) rd a s t l e h
+    like_act (Srai rd a n) r h s t l e = like_computed (λ x. shift_right_signed x n) rd a s t l e h
+    like_act (Add rd a b) r h s t l e = like_of_two (λ x y. add x y) rd a b s t l e h
+    like_act (Sub rd a b) r h s t l e = like_of_two (λ x y. subtract x y) rd a b s t l e h
+    like_act (Sll rd a b) r h s t l e = like_of_two (λ x y. shift_left x (y % 64)) rd a b s t l e h
+    like_act (Slt rd a b) r h s t l e = like_of_two (λ x y. flag (signed_less x y)) rd a b s t l e h
+    like_act (Sltu rd a b) r h s t l e = like_of_two (λ x y. flag (nat_lt x y)) rd a b s t l e h
+    like_act (Xor rd a b) r h s t l e = like_of_two (λ x y. bit_xor x y) rd a b s t l e h
+    like_act (Srl rd a b) r h s t l e = like_of_two (λ x y. shift_right x (y % 64)) rd a b s t l e h
+    like_act (Sra rd a b) r h s t l e = like_of_two (λ x y. shift_right_signed x (y % 64)) rd a b s t l e h
+    like_act (Or rd a b) r h s t l e = like_of_two (λ x y. bit_or x y) rd a b s t l e h
+    like_act (And rd a b) r h s t l e = like_of_two (λ x y. bit_and x y) rd a b s t l e h
+    like_act (Addiw rd a n) r h s t l e = like_computed (λ x. half (plus x n)) rd a s t l e h
+    like_act (Slliw rd a n) r h s t l e = like_computed (λ x. half (low_half x * 2 ^ n)) rd a s t l e h
+    like_act (Srliw rd a n) r h s t l e = like_computed (λ x. half (low_half x / 2 ^ n)) rd a s t l e h
+    like_act (Sraiw rd a n) r h s t l e = like_computed (λ x. half_right_signed x n) rd a s t l e h
+    like_act (Addw rd a b) r h s t l e = like_of_two (λ x y. half (add x y)) rd a b s t l e h
+    like_act (Subw rd a b) r h s t l e = like_of_two (λ x y. half (subtract x y)) rd a b s t l e h
+    like_act (Sllw rd a b) r h s t l e = like_of_two (λ x y. half (low_half x * 2 ^ (y % 32))) rd a b s t l e h
+    like_act (Srlw rd a b) r h s t l e = like_of_two (λ x y. half (low_half x / 2 ^ (y % 32))) rd a b s t l e h
+    like_act (Sraw rd a b) r h s t l e = like_of_two (λ x y. half_right_signed x (y % 32)) rd a b s t l e h
     like_act (Fence rd a n) r h s t l e =
         (record { layout = l.layout; regs = l.regs; memory = l.memory; world = l.world }, ap (λ x. add x 4) e)
     like_act Ecall r h s t l e = ok_ecall.spares s t l e
@@ -343,58 +320,16 @@ module _ (ecall ebreak : State → Turn) where
   module _ (left_ecall : (s : State) → LeavesCode s (ecall s)) (left_ebreak : (s : State) → LeavesCode s (ebreak s))
     where
       pub leaves_act : (i : Inst) (s : State) → LeavesCode s (act_with ecall ebreak i s)
-      leaves_act (Lui rd n) s = (refl, λ at h k. refl)
-      leaves_act (Auipc rd n) s = (refl, λ at h k. refl)
-      leaves_act (Jal rd n) s = leaves_jump rd (plus s.pc n) s
-      leaves_act (Jalr rd a n) s = leaves_jump rd (plus (reg s a) n - plus (reg s a) n % 2) s
-      leaves_act (Beq a b n) s = leaves_branch (reg s a == reg s b) n s
-      leaves_act (Bne a b n) s = leaves_branch (not (reg s a == reg s b)) n s
-      leaves_act (Blt a b n) s = leaves_branch (signed_less (reg s a) (reg s b)) n s
-      leaves_act (Bge a b n) s = leaves_branch (not (signed_less (reg s a) (reg s b))) n s
-      leaves_act (Bltu a b n) s = leaves_branch (nat_lt (reg s a) (reg s b)) n s
-      leaves_act (Bgeu a b n) s = leaves_branch (not (nat_lt (reg s a) (reg s b))) n s
-      leaves_act (Lb rd a n) s = leaves_load true w8 rd (plus (reg s a) n) s
-      leaves_act (Lh rd a n) s = leaves_load true w16 rd (plus (reg s a) n) s
-      leaves_act (Lw rd a n) s = leaves_load true w32 rd (plus (reg s a) n) s
-      leaves_act (Ld rd a n) s = leaves_load false w64 rd (plus (reg s a) n) s
-      leaves_act (Lbu rd a n) s = leaves_load false w8 rd (plus (reg s a) n) s
-      leaves_act (Lhu rd a n) s = leaves_load false w16 rd (plus (reg s a) n) s
-      leaves_act (Lwu rd a n) s = leaves_load false w32 rd (plus (reg s a) n) s
-      leaves_act (Sb b a n) s = leaves_store w8 (reg s b) (plus (reg s a) n) s
-      leaves_act (Sh b a n) s = leaves_store w16 (reg s b) (plus (reg s a) n) s
-      leaves_act (Sw b a n) s = leaves_store w32 (reg s b) (plus (reg s a) n) s
-      leaves_act (Sd b a n) s = leaves_store w64 (reg s b) (plus (reg s a) n) s
-      leaves_act (Addi rd a n) s = (refl, λ at h k. refl)
-      leaves_act (Slti rd a n) s = (refl, λ at h k. refl)
-      leaves_act (Sltiu rd a n) s = (refl, λ at h k. refl)
-      leaves_act (Xori rd a n) s = (refl, λ at h k. refl)
-      leaves_act (Ori rd a n) s = (refl, λ at h k. refl)
-      leaves_act (Andi rd a n) s = (refl, λ at h k. refl)
-      leaves_act (Slli rd a n) s = (refl, λ at h k. refl)
-      leaves_act (Srli rd a n) s = (refl, λ at h k. refl)
-      leaves_act (Srai rd a n) s = (refl, λ at h k. refl)
-      leaves_act (Add rd a b) s = (refl, λ at h k. refl)
-      leaves_act (Sub rd a b) s = (refl, λ at h k. refl)
-      leaves_act (Sll rd a b) s = (refl, λ at h k. refl)
-      leaves_act (Slt rd a b) s = (refl, λ at h k. refl)
-      leaves_act (Sltu rd a b) s = (refl, λ at h k. refl)
-      leaves_act (Xor rd a b) s = (refl, λ at h k. refl)
-      leaves_act (Srl rd a b) s = (refl, λ at h k. refl)
-      leaves_act (Sra rd a b) s = (refl, λ at h k. refl)
-      leaves_act (Or rd a b) s = (refl, λ at h k. refl)
-      leaves_act (And rd a b) s = (refl, λ at h k. refl)
-      leaves_act (Addiw rd a n) s = (refl, λ at h k. refl)
-      leaves_act (Slliw rd a n) s = (refl, λ at h k. refl)
-      leaves_act (Srliw rd a n) s = (refl, λ at h k. refl)
-      leaves_act (Sraiw rd a n) s = (refl, λ at h k. refl)
-      leaves_act (Addw rd a b) s = (refl, λ at h k. refl)
-      leaves_act (Subw rd a b) s = (refl, λ at h k. refl)
-      leaves_act (Sllw rd a b) s = (refl, λ at h k. refl)
-      leaves_act (Srlw rd a b) s = (refl, λ at h k. refl)
-      leaves_act (Sraw rd a b) s = (refl, λ at h k. refl)
-      leaves_act (Fence rd a n) s = (refl, λ at h k. refl)
-      leaves_act Ecall s = left_ecall s
-      leaves_act Ebreak s = left_ebreak s
+      leaves_act i s =
+          each_act ecall ebreak s (λ turn. LeavesCode s turn) (record {
+            puts = λ regs. (refl, λ at h k. refl);
+            jumps = λ rd target. leaves_jump rd target s;
+            branches = λ taken n. leaves_branch taken n s;
+            loads = λ signed w rd at. leaves_load signed w rd at s;
+            stores = λ w word at. leaves_store w word at s;
+            calls = left_ecall s;
+            breaks = left_ebreak s;
+          }) i
 
 -- ---- instructions that are no calls
 
@@ -405,55 +340,6 @@ is_call i = false
 
 pub plain_act : (ecall ebreak : State → Turn) (i : Inst) → is_call i ≡ false → (s : State)
     → act i s ≡ act_with ecall ebreak i s
-plain_act ecall ebreak (Lui rd n) c s = refl
-plain_act ecall ebreak (Auipc rd n) c s = refl
-plain_act ecall ebreak (Jal rd n) c s = refl
-plain_act ecall ebreak (Jalr rd a n) c s = refl
-plain_act ecall ebreak (Beq a b n) c s = refl
-plain_act ecall ebreak (Bne a b n) c s = refl
-plain_act ecall ebreak (Blt a b n) c s = refl
-plain_act ecall ebreak (Bge a b n) c s = refl
-plain_act ecall ebreak (Bltu a b n) c s = refl
-plain_act ecall ebreak (Bgeu a b n) c s = refl
-plain_act ecall ebreak (Lb rd a n) c s = refl
-plain_act ecall ebreak (Lh rd a n) c s = refl
-plain_act ecall ebreak (Lw rd a n) c s = refl
-plain_act ecall ebreak (Ld rd a n) c s = refl
-plain_act ecall ebreak (Lbu rd a n) c s = refl
-plain_act ecall ebreak (Lhu rd a n) c s = refl
-plain_act ecall ebreak (Lwu rd a n) c s = refl
-plain_act ecall ebreak (Sb b a n) c s = refl
-plain_act ecall ebreak (Sh b a n) c s = refl
-plain_act ecall ebreak (Sw b a n) c s = refl
-plain_act ecall ebreak (Sd b a n) c s = refl
-plain_act ecall ebreak (Addi rd a n) c s = refl
-plain_act ecall ebreak (Slti rd a n) c s = refl
-plain_act ecall ebreak (Sltiu rd a n) c s = refl
-plain_act ecall ebreak (Xori rd a n) c s = refl
-plain_act ecall ebreak (Ori rd a n) c s = refl
-plain_act ecall ebreak (Andi rd a n) c s = refl
-plain_act ecall ebreak (Slli rd a n) c s = refl
-plain_act ecall ebreak (Srli rd a n) c s = refl
-plain_act ecall ebreak (Srai rd a n) c s = refl
-plain_act ecall ebreak (Add rd a b) c s = refl
-plain_act ecall ebreak (Sub rd a b) c s = refl
-plain_act ecall ebreak (Sll rd a b) c s = refl
-plain_act ecall ebreak (Slt rd a b) c s = refl
-plain_act ecall ebreak (Sltu rd a b) c s = refl
-plain_act ecall ebreak (Xor rd a b) c s = refl
-plain_act ecall ebreak (Srl rd a b) c s = refl
-plain_act ecall ebreak (Sra rd a b) c s = refl
-plain_act ecall ebreak (Or rd a b) c s = refl
-plain_act ecall ebreak (And rd a b) c s = refl
-plain_act ecall ebreak (Addiw rd a n) c s = refl
-plain_act ecall ebreak (Slliw rd a n) c s = refl
-plain_act ecall ebreak (Srliw rd a n) c s = refl
-plain_act ecall ebreak (Sraiw rd a n) c s = refl
-plain_act ecall ebreak (Addw rd a b) c s = refl
-plain_act ecall ebreak (Subw rd a b) c s = refl
-plain_act ecall ebreak (Sllw rd a b) c s = refl
-plain_act ecall ebreak (Srlw rd a b) c s = refl
-plain_act ecall ebreak (Sraw rd a b) c s = refl
-plain_act ecall ebreak (Fence rd a n) c s = refl
 plain_act ecall ebreak Ecall c s = absurd (true≢false c)
 plain_act ecall ebreak Ebreak c s = absurd (true≢false c)
+plain_act ecall ebreak i c s = refl

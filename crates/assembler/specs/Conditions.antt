@@ -1,69 +1,27 @@
 -- What a code must be to be assembled.
 use Rattle.std.specs.Prelude.{ℕ, ◌+◌, ◌≡◌, ◌==◌, if◌then◌else◌, Bool, true, false, List, [], ◌∷◌, All, Any, Contains}
 use Rattle.rv_isa.specs.declared.inst.Inst.{Inst}
-use Rattle.rv_isa.specs.declared.inst.Inst.TheVariants.{Lui, Auipc, Jal, Jalr, Beq, Bne, Blt, Bge, Bltu, Bgeu, Lb, Lh}
-use Rattle.rv_isa.specs.declared.inst.Inst.TheVariants.{Lw, Ld, Lbu, Lhu, Lwu, Sb, Sh, Sw, Sd, Addi, Slti, Sltiu, Xori}
-use Rattle.rv_isa.specs.declared.inst.Inst.TheVariants.{Ori, Andi, Slli, Srli, Srai, Add, Sub, Sll, Slt, Sltu, Xor, Srl}
-use Rattle.rv_isa.specs.declared.inst.Inst.TheVariants.{Sra, Or, And, Addiw, Slliw, Srliw, Sraiw, Addw, Subw, Sllw}
-use Rattle.rv_isa.specs.declared.inst.Inst.TheVariants.{Srlw, Sraw, Fence, Ecall, Ebreak}
+use Rattle.rv_isa.specs.declared.inst.Inst.TheVariants.{Auipc, Jal, Beq, Bne, Blt, Bge, Bltu, Bgeu}
+use Rattle.rv_isa.specs.Table.{Form, form_of, RegisterForm, ImmediateForm, ShiftForm, WordShiftForm, StoreForm}
+use Rattle.rv_isa.specs.Table.{BranchForm, UpperForm, JumpForm, WholeWord}
 use Rattle.rv_machine.specs.declared.real.RealItem.{RealItem}
 use Rattle.rv_machine.specs.declared.real.RealItem.TheVariants.{Op, Mark, Jump, Branch, Address}
 pub use Rattle.rv_machine.specs.Real.{is_mark}
 
 -- the registers that an instruction names
+abbrev pub form_registers : Form → List ℕ
+form_registers (RegisterForm opcode funct3 funct7 rd rs1 rs2) = rd ∷ rs1 ∷ rs2 ∷ []
+form_registers (ImmediateForm opcode funct3 rd rs1 immediate) = rd ∷ rs1 ∷ []
+form_registers (ShiftForm funct3 kind rd rs1 amount) = rd ∷ rs1 ∷ []
+form_registers (WordShiftForm funct3 funct7 rd rs1 amount) = rd ∷ rs1 ∷ []
+form_registers (StoreForm funct3 rs2 rs1 offset) = rs2 ∷ rs1 ∷ []
+form_registers (BranchForm funct3 rs1 rs2 offset) = rs1 ∷ rs2 ∷ []
+form_registers (UpperForm opcode rd upper) = rd ∷ []
+form_registers (JumpForm rd offset) = rd ∷ []
+form_registers (WholeWord word) = []
+
 abbrev pub registers_of : Inst → List ℕ
-registers_of (Lui rd n) = rd ∷ []
-registers_of (Auipc rd n) = rd ∷ []
-registers_of (Jal rd n) = rd ∷ []
-registers_of (Jalr rd a n) = rd ∷ a ∷ []
-registers_of (Beq a b n) = a ∷ b ∷ []
-registers_of (Bne a b n) = a ∷ b ∷ []
-registers_of (Blt a b n) = a ∷ b ∷ []
-registers_of (Bge a b n) = a ∷ b ∷ []
-registers_of (Bltu a b n) = a ∷ b ∷ []
-registers_of (Bgeu a b n) = a ∷ b ∷ []
-registers_of (Lb rd a n) = rd ∷ a ∷ []
-registers_of (Lh rd a n) = rd ∷ a ∷ []
-registers_of (Lw rd a n) = rd ∷ a ∷ []
-registers_of (Ld rd a n) = rd ∷ a ∷ []
-registers_of (Lbu rd a n) = rd ∷ a ∷ []
-registers_of (Lhu rd a n) = rd ∷ a ∷ []
-registers_of (Lwu rd a n) = rd ∷ a ∷ []
-registers_of (Sb b a n) = b ∷ a ∷ []
-registers_of (Sh b a n) = b ∷ a ∷ []
-registers_of (Sw b a n) = b ∷ a ∷ []
-registers_of (Sd b a n) = b ∷ a ∷ []
-registers_of (Addi rd a n) = rd ∷ a ∷ []
-registers_of (Slti rd a n) = rd ∷ a ∷ []
-registers_of (Sltiu rd a n) = rd ∷ a ∷ []
-registers_of (Xori rd a n) = rd ∷ a ∷ []
-registers_of (Ori rd a n) = rd ∷ a ∷ []
-registers_of (Andi rd a n) = rd ∷ a ∷ []
-registers_of (Slli rd a n) = rd ∷ a ∷ []
-registers_of (Srli rd a n) = rd ∷ a ∷ []
-registers_of (Srai rd a n) = rd ∷ a ∷ []
-registers_of (Add rd a b) = rd ∷ a ∷ b ∷ []
-registers_of (Sub rd a b) = rd ∷ a ∷ b ∷ []
-registers_of (Sll rd a b) = rd ∷ a ∷ b ∷ []
-registers_of (Slt rd a b) = rd ∷ a ∷ b ∷ []
-registers_of (Sltu rd a b) = rd ∷ a ∷ b ∷ []
-registers_of (Xor rd a b) = rd ∷ a ∷ b ∷ []
-registers_of (Srl rd a b) = rd ∷ a ∷ b ∷ []
-registers_of (Sra rd a b) = rd ∷ a ∷ b ∷ []
-registers_of (Or rd a b) = rd ∷ a ∷ b ∷ []
-registers_of (And rd a b) = rd ∷ a ∷ b ∷ []
-registers_of (Addiw rd a n) = rd ∷ a ∷ []
-registers_of (Slliw rd a n) = rd ∷ a ∷ []
-registers_of (Srliw rd a n) = rd ∷ a ∷ []
-registers_of (Sraiw rd a n) = rd ∷ a ∷ []
-registers_of (Addw rd a b) = rd ∷ a ∷ b ∷ []
-registers_of (Subw rd a b) = rd ∷ a ∷ b ∷ []
-registers_of (Sllw rd a b) = rd ∷ a ∷ b ∷ []
-registers_of (Srlw rd a b) = rd ∷ a ∷ b ∷ []
-registers_of (Sraw rd a b) = rd ∷ a ∷ b ∷ []
-registers_of (Fence rd a n) = rd ∷ a ∷ []
-registers_of Ecall = []
-registers_of Ebreak = []
+registers_of inst = form_registers (form_of inst)
 
 -- those that an item names
 abbrev pub registers_named : RealItem → List ℕ

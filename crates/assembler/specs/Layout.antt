@@ -1,25 +1,17 @@
 -- Where the items of a code lie. Their forms are chosen once: a form is near where it reaches also if every item had
 -- its longest form. Positions count words from the start of the code, places count items.
-use Rattle.std.specs.Prelude.{ℕ, suc, ◌+◌, ◌-◌, ◌*◌, ◌==◌, nat_lt, Bool, true, if◌then◌else◌, List, [], ◌∷◌, map, take}
-use Rattle.std.specs.Prelude.{sum}
+use Rattle.std.specs.Prelude.{ℕ, suc, ◌+◌, ◌-◌, ◌*◌, ◌==◌, nat_lt, Bool, true, false, if◌then◌else◌, List, [], ◌∷◌}
+use Rattle.std.specs.Prelude.{map, take, sum}
 use Rattle.rv_machine.specs.declared.real.RealItem.{RealItem}
 use Rattle.rv_machine.specs.declared.real.RealItem.TheVariants.{Op, Mark, Jump, Branch, Address}
 
--- how many words the longest form of an item has
-abbrev pub longest : RealItem → ℕ
-longest (Op i) = 1
-longest (Mark mark) = 0
-longest (Jump rd mark) = 10
-longest (Branch cond a b mark) = 11
-longest (Address rd mark) = 10
-
--- how many words the near form of an item has
-abbrev pub shortest : RealItem → ℕ
-shortest (Op i) = 1
-shortest (Mark mark) = 0
-shortest (Jump rd mark) = 1
-shortest (Branch cond a b mark) = 1
-shortest (Address rd mark) = 3
+-- how many words an item has in its near form, or else in its longest
+abbrev pub width : Bool → RealItem → ℕ
+width near (Op i) = 1
+width near (Mark mark) = 0
+width near (Jump rd mark) = if near then 1 else 10
+width near (Branch cond a b mark) = if near then 1 else 11
+width near (Address rd mark) = if near then 3 else 10
 
 -- the place of a mark, or that past the last item where it doesn't stand
 abbrev pub mark_place : ℕ → List RealItem → ℕ
@@ -47,10 +39,6 @@ is_near widest items start place (Branch cond a b mark) =
 is_near widest items start place (Address rd mark) =
     nat_lt (start + 4 * words_before widest (mark_place mark items)) 2147483648
 
--- how many words an item has
-abbrev pub width : Bool → RealItem → ℕ
-width near item = if near then shortest item else longest item
-
 -- the words of each of the items that are left, from a place on
 abbrev pub widths_from : List ℕ → List RealItem → ℕ → ℕ → List RealItem → List ℕ
 widths_from widest items start place [] = []
@@ -58,7 +46,7 @@ widths_from widest items start place (item ∷ rest) =
     width (is_near widest items start place item) item ∷ widths_from widest items start (suc place) rest
 
 abbrev pub longest_widths : List RealItem → List ℕ
-longest_widths items = map longest items
+longest_widths items = map (width false) items
 
 abbrev pub widths : List RealItem → ℕ → List ℕ
 widths items start = widths_from (longest_widths items) items start 0 items

@@ -1,13 +1,13 @@
 -- Prices of items: how many instructions each is done in at most, wherever code lies.
-use Rattle.std.specs.Prelude.{ℕ, List, Option, Some, None}
+use Rattle.std.specs.Prelude.{ℕ, false, List, Option, Some, None}
 use Rattle.rv_machine.specs.declared.real.RealItem.{RealItem}
 use Rattle.rv_machine.specs.State.{State}
 use Rattle.rv_machine.specs.Real.{Setting, Here, item_at}
-use Rattle.assembler.specs.Layout.{longest}
+use Rattle.assembler.specs.Layout.{width}
 
 -- an item in its longest form: an instruction is one, a mark none, a jump or an address 10 and a branch 11
 abbrev pub real_price : RealItem → ℕ
-real_price item = longest item
+real_price item = width false item
 
 abbrev pub price_here : Option Here → ℕ
 price_here None = 0

@@ -10,7 +10,7 @@ ghost use Rattle.assembler.specs.Tables.{IsLayoutOf};
 
 use crate::expansion::{CodeWords, put_item};
 use crate::image::Image;
-use crate::imaging::image_of;
+use crate::imaging::image_bytes;
 use crate::layout::Layout;
 use grift_base::lists::OutOfMemory;
 use grift_base::places::LabelTable;
@@ -39,8 +39,8 @@ pub fn assemble(
         return Err(OutOfMemory);
     }
     let words = code_words(alloc, items, FIRST_ADDRESS + 8 * statics.len() as u64)?;
-    let image = image_of(alloc, statics, words.as_slice(), labels)?;
-    Ok(image)
+    let bytes = image_bytes(alloc, statics, words.as_slice(), labels)?;
+    Ok(Image::new(bytes))
 }
 
 // The words of a code that begins at this address.

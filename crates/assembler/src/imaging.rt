@@ -1,12 +1,10 @@
 // Images from statics, code and labels.
 
 ghost use Rattle.std.specs.Prelude.{◌≡◌, ◌++◌, ◌≤◌, ◌<◌, ◌*◌, ◌^◌, IfOk, OnOk, length, flat_map};
-ghost use Rattle.rv_machine.specs.Image.{labels_of};
 ghost use Rattle.assembler.specs.Imaging.{word_bytes, half_bytes, label_bytes, header_bytes, code_bytes, image_bytes};
 ghost use Rattle.assembler.specs.Imaging.{AreSections};
 ghost use Rattle.assembler.specs.Tables.{AreLabels};
 
-use crate::image::Image;
 use grift_base::lists::{Bytes, OutOfMemory};
 use grift_base::places::{LabelTable, Pos};
 use std::alloc::Global;
@@ -14,27 +12,9 @@ use std::alloc::Global;
 // The offset in code at which an image starts.
 const ENTRY: u64 = 0;
 
-// The image with these words of statics, these words of code, which it enters at its start, and these labels.
-pub(crate) fn image_of(
-    alloc: Global,
-    statics: &[u64],
-    words: &[u32],
-    labels: &LabelTable,
-) -> Result<Image, OutOfMemory>
-    requires few_statics { length statics.now ≤ 2 ^ 40 }
-    requires few { length words.now ≤ 11 * 2 ^ 40 }
-    requires some { 0 < length words.now }
-    ensures bytes { IfOk result (λ image.
-        image ≡ image_bytes (flat_map word_bytes statics.now) (code_bytes words.now) labels.now) }
-    ensures labels { IfOk result (λ image. labels_of image ≡ labels.now) }
-    ensures sections { OnOk result (AreSections (flat_map word_bytes statics.now) (code_bytes words.now) labels.now) }
-{
-    let bytes = image_bytes(alloc, statics, words, labels)?;
-    Ok(Image::new(bytes))
-}
-
-// The bytes of the image with these words of statics, these words of code and these labels.
-fn image_bytes(
+// The bytes of the image with these words of statics, these words of code, which it enters at its start, and these
+// labels.
+pub(crate) fn image_bytes(
     alloc: Global,
     statics: &[u64],
     words: &[u32],

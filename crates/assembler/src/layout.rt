@@ -2,7 +2,7 @@
 
 ghost use Rattle.std.specs.Prelude.{◌≡◌, ◌≤◌, ◌<◌, ◌*◌, ◌^◌, IfOk, length, nat_eq, nat_lt, get_or};
 ghost use Rattle.indexmap.specs.IndexMap.{get};
-ghost use Rattle.assembler.specs.Layout.{longest, shortest, width, distance, mark_place, words_before, is_near};
+ghost use Rattle.assembler.specs.Layout.{width, distance, mark_place, words_before, is_near};
 ghost use Rattle.assembler.specs.Layout.{longest_widths, widths, address_of};
 ghost use Rattle.assembler.specs.Expansion.{target_of};
 ghost use Rattle.assembler.specs.Tables.{HoldsSums, HoldsPlaces, IsReachOf, IsLayoutOf};
@@ -14,7 +14,7 @@ use std::alloc::Global;
 
 // What tells which items have their near form: the place of each mark, how many words lie before each place if every
 // item has its longest form, and the first address.
-#[derive(Drop, Debug)]
+#[derive(Drop)]
 pub(crate) struct Reach {
     places: IndexMap<u32, u64>,
     widest: Items<u64>,
@@ -22,7 +22,7 @@ pub(crate) struct Reach {
 }
 
 // Where the items lie: how many words lie before each place, and by what this was chosen.
-#[derive(Drop, Debug)]
+#[derive(Drop)]
 pub(crate) struct Layout {
     reach: Reach,
     before: Items<u64>,
@@ -54,7 +54,7 @@ fn longest_sums(alloc: Global, items: &[RealItem]) -> Result<Items<u64>, OutOfMe
     let mut before = 0;
     sums.push(before)?;
     for item in items {
-        before += longest(item);
+        before += width(false, item);
         sums.push(before)?;
     }
     Ok(sums)
@@ -88,40 +88,18 @@ fn words_before(sums: &Items<u64>, place: usize) -> u64
 
 // ---- widths
 
-// How many words the longest form of an item has.
-fn longest(item: &RealItem) -> u64
-    ensures value { result ≡ longest item.now }
-    ensures small { result ≤ 11 }
-{
-    match item {
-        RealItem::Op(_) => 1,
-        RealItem::Mark(_) => 0,
-        RealItem::Jump(_, _) => 10,
-        RealItem::Branch(_, _, _, _) => 11,
-        RealItem::Address(_, _) => 10,
-    }
-}
-
-// How many words the near form of an item has.
-fn shortest(item: &RealItem) -> u64
-    ensures value { result ≡ shortest item.now }
-    ensures small { result ≤ 11 }
-{
-    match item {
-        RealItem::Op(_) => 1,
-        RealItem::Mark(_) => 0,
-        RealItem::Jump(_, _) => 1,
-        RealItem::Branch(_, _, _, _) => 1,
-        RealItem::Address(_, _) => 3,
-    }
-}
-
-// How many words an item has.
+// How many words an item has in its near form, or else in its longest.
 fn width(near: bool, item: &RealItem) -> u64
     ensures value { result ≡ width near item.now }
     ensures small { result ≤ 11 }
 {
-    if near { shortest(item) } else { longest(item) }
+    match item {
+        RealItem::Op(_) => 1,
+        RealItem::Mark(_) => 0,
+        RealItem::Jump(_, _) => if near { 1 } else { 10 },
+        RealItem::Branch(_, _, _, _) => if near { 1 } else { 11 },
+        RealItem::Address(_, _) => if near { 3 } else { 10 },
+    }
 }
 
 // ---- the layout

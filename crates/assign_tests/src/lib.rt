@@ -3,6 +3,4 @@
 #![tactic(auto)]
 
 #[cfg(test)]
-mod listings;
-#[cfg(test)]
-mod places;
+mod tests;

@@ -3,6 +3,4 @@
 #![tactic(auto)]
 
 #[cfg(test)]
-mod goings;
-#[cfg(test)]
-mod sources;
+mod tests;

@@ -4,26 +4,4 @@
 #![tactic(auto)]
 
 #[cfg(test)]
-mod dyns;
-#[cfg(test)]
-mod labels;
-#[cfg(test)]
-mod laws;
-#[cfg(test)]
-mod lists;
-#[cfg(test)]
-mod numbers;
-#[cfg(test)]
-mod refusals;
-#[cfg(test)]
-mod shelves;
-#[cfg(test)]
-mod sinks;
-#[cfg(test)]
-mod storage;
-#[cfg(test)]
-mod texts;
-#[cfg(test)]
-mod verdicts;
-#[cfg(test)]
-mod worlds;
+mod tests;

@@ -1,9 +1,8 @@
 -- What a cast that goes up says of the rows of its types, and of their parts.
 use Rattle.std.proofs.Common.{◌≡◌, ℕ, zero, suc, ℤ, pos, Bool, true, false, List, [], ◌∷◌, length}
-use Rattle.std.proofs.Common.{Some, refl, sym, ap₂, ◌∙◌, slice_get}
-use Rattle.std.specs.Prelude.{◌&&◌, nat_eq}
-use Rattle.std.proofs.lemmas.Bool.{and_parts}
-use lib.Dec.{eqb-suc-suc}
+use Rattle.std.proofs.Common.{Some, refl, sym, ap, ap₂, ◌∙◌, slice_get}
+use Rattle.std.specs.Prelude.{◌&&◌}
+use Rattle.std.proofs.lemmas.Bool.{and_parts, eq-eqb}
 use Rattle.grift_base.specs.Types.{TypeRow, TypeRows, IntRow, BoolRow, UnitRow, DynRow, FunRow, TupleRow, RefRow}
 use Rattle.grift_base.specs.Types.{VectRow, row_at, is_dyn, same_head, tuple_part, content_of}
 use Rattle.type_graph.specs.Trees.{related}
@@ -16,21 +15,11 @@ false_is_not_true e = absurd (no e)
     no : false ≡ true → ⊥
     no e = cc
 
-related_lengths : (f : ℕ → ℕ → Bool) (xs ys : List ℕ) → related f xs ys ≡ true →
-    nat_eq (length xs) (length ys) ≡ true
+related_lengths : (f : ℕ → ℕ → Bool) (xs ys : List ℕ) → related f xs ys ≡ true → length xs ≡ length ys
 related_lengths f [] [] e = refl
 related_lengths f [] (y ∷ ys) e = false_is_not_true e
 related_lengths f (x ∷ xs) [] e = false_is_not_true e
-related_lengths f (x ∷ xs) (y ∷ ys) e =
-    eqb-suc-suc (length xs) (length ys) ∙ related_lengths f xs ys (and_parts (f x y) (related f xs ys) e).1
-
-turned_lengths : (f : ℕ → ℕ → Bool) (xs ys : List ℕ) → related f ys xs ≡ true →
-    nat_eq (length xs) (length ys) ≡ true
-turned_lengths f [] [] e = refl
-turned_lengths f [] (y ∷ ys) e = false_is_not_true e
-turned_lengths f (x ∷ xs) [] e = false_is_not_true e
-turned_lengths f (x ∷ xs) (y ∷ ys) e =
-    eqb-suc-suc (length xs) (length ys) ∙ turned_lengths f xs ys (and_parts (f y x) (related f ys xs) e).1
+related_lengths f (x ∷ xs) (y ∷ ys) e = ap suc (related_lengths f xs ys (and_parts (f x y) (related f xs ys) e).1)
 
 -- where the cast goes up to a type that isn't Dyn, the heads are equal
 pub up_has_head : (f : ℕ → ℕ → Bool) (row other : TypeRow) → up_rows f row other ≡ true → is_dyn other ≡ false →
@@ -40,8 +29,10 @@ up_has_head f IntRow IntRow e no_dyn = refl
 up_has_head f BoolRow BoolRow e no_dyn = refl
 up_has_head f UnitRow UnitRow e no_dyn = refl
 up_has_head f (FunRow parameters answer) (FunRow others other) e no_dyn =
-    turned_lengths f parameters others (and_parts (related f others parameters) (f answer other) e).0
-up_has_head f (TupleRow parts) (TupleRow others) e no_dyn = related_lengths f parts others e
+    let turned = and_parts (related f others parameters) (f answer other) e in
+    eq-eqb (length parameters) (length others) (sym (related_lengths f others parameters turned.0))
+up_has_head f (TupleRow parts) (TupleRow others) e no_dyn =
+    eq-eqb (length parts) (length others) (related_lengths f parts others e)
 up_has_head f (RefRow content) (RefRow other) e no_dyn = refl
 up_has_head f (VectRow content) (VectRow other) e no_dyn = refl
 up_has_head f _ _ e no_dyn = false_is_not_true e
@@ -50,14 +41,8 @@ up_has_head f _ _ e no_dyn = false_is_not_true e
 pub up_from_no_dyn : (f : ℕ → ℕ → Bool) (row other : TypeRow) → up_rows f row other ≡ true → is_dyn other ≡ false →
     is_dyn row ≡ true → ⊥
 up_from_no_dyn f row DynRow e no_dyn dyn = false_is_not_true (sym no_dyn)
-up_from_no_dyn f IntRow IntRow e no_dyn dyn = false_is_not_true dyn
-up_from_no_dyn f BoolRow BoolRow e no_dyn dyn = false_is_not_true dyn
-up_from_no_dyn f UnitRow UnitRow e no_dyn dyn = false_is_not_true dyn
-up_from_no_dyn f (FunRow parameters answer) (FunRow others other) e no_dyn dyn = false_is_not_true dyn
-up_from_no_dyn f (TupleRow parts) (TupleRow others) e no_dyn dyn = false_is_not_true dyn
-up_from_no_dyn f (RefRow content) (RefRow other) e no_dyn dyn = false_is_not_true dyn
-up_from_no_dyn f (VectRow content) (VectRow other) e no_dyn dyn = false_is_not_true dyn
-up_from_no_dyn f _ _ e no_dyn dyn = false_is_not_true e
+up_from_no_dyn f DynRow _ e no_dyn dyn = false_is_not_true e
+up_from_no_dyn f _ _ e no_dyn dyn = false_is_not_true dyn
 
 related_at : (f : ℕ → ℕ → Bool) (xs ys : List ℕ) (k x y : ℕ) → related f xs ys ≡ true → slice_get xs k ≡ Some x →
     slice_get ys k ≡ Some y → f x y ≡ true

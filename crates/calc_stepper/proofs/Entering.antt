@@ -1,5 +1,5 @@
 -- Entering a function.
-use Rattle.std.proofs.Common.{◌≡◌, ℕ, List, [], ◌∷◌, Option, Some, None, refl, ap, ◌∙◌, sym}
+use Rattle.std.proofs.Common.{◌≡◌, ℕ, Bool, cond, List, [], ◌∷◌, ◌++◌, map, Option, Some, None, refl, ap, ◌∙◌, sym}
 use Rattle.std.specs.Prelude.{true, false, is_some, option_map}
 use Rattle.grift_base.specs.World.{WorldState}
 use Rattle.grift_base.specs.Types.{TypeRow, IntRow, BoolRow, UnitRow, DynRow, FunRow, TupleRow, RefRow}
@@ -7,24 +7,25 @@ use Rattle.grift_base.specs.Types.{VectRow, TypeRows, row_at}
 use Rattle.core_calc.specs.Terms.{Term, Terms, Value, IntValue, BoolValue, UnitValue, FunValue, MemberValue}
 use Rattle.core_calc.specs.Terms.{TupleValue, LocValue, WrapValue, InjectValue, NoTerms, TermThen, Cast, Enter}
 use Rattle.core_calc.specs.Terms.{ValueTerm, all_values, as_value}
-use Rattle.core_calc.specs.Substitution.{group_values}
+use Rattle.core_calc.specs.declared.terms.VarId.{VarId}
+use Rattle.core_calc.specs.Views.{names_of}
+use Rattle.core_calc.specs.Substitution.{Substitution, group_values, substitute}
 use Rattle.core_calc.specs.Outcome.{Store, Goes, Stuck, if_some, with_some}
 use Rattle.core_calc.specs.Calls.{enter_step, enter_wrapped, cast_arguments}
-use Rattle.calc_stepper.specs.Entered.{entered}
+use Rattle.core_calc.proofs.Public.{some_is_not_none}
+use Rattle.calc_stepper.specs.Entered.{entered, with_arguments}
 use Rattle.calc_stepper.specs.Moves.{after}
 use Rattle.calc_stepper.specs.Redexes.{enter_redex}
 use Rattle.calc_stepper.specs.declared.moves.Moved.TheVariants.{Goes as GoesOn, Stuck as IsStuck}
-use Rattle.calc_stepper.specs.Taken.{as_many, casts, wrapped_casts}
-use Rattle.calc_stepper.specs.Values.{wrapper_in}
+use Rattle.calc_stepper.specs.Taken.{as_many, casts, taken_arguments, wrapped_casts}
+use Rattle.calc_stepper.specs.Values.{wrapped_of, wrapper_in}
+use Rattle.calc_stepper.proofs.Projecting.{seen_through}
 use Rattle.calc_stepper.proofs.Taking.{enters, member_enters}
 
 no_function : (store : Store) (world : WorldState) (values : Option (List Value)) →
     if_some {B = Term} values (λ vs. Stuck) Stuck ≡ Stuck
 no_function store world (Some vs) = refl
 no_function store world None = refl
-
-some_is_not_none : {A : Type 0} (a : A) → Some a ≡ None → ⊥
-some_is_not_none a e = cc
 
 pub enter_is : (types : TypeRows) (store : Store) (world : WorldState) (function : Option Value) (terms : Terms) →
     wrapper_in function ≡ None → is_some (all_values terms) ≡ true →
@@ -71,6 +72,27 @@ true_is_not_false e = cc
 
 false_is_not_true : false ≡ true → ⊥
 false_is_not_true e = cc
+
+-- what says whether there are as many items as terms says it of what stands for the items too
+pub as_many_mapped : {A B : Type 0} (f : A → B) (items given : List A) (terms : Terms) (said b : Bool) →
+    given ≡ items → said ≡ as_many given terms → said ≡ b → as_many (map f items) terms ≡ b
+as_many_mapped f items given terms said b same e h =
+    as_many_map f items terms ∙ ap (λ xs. as_many xs terms) (sym same) ∙ sym e ∙ h
+  where
+    as_many_map : {A B : Type 0} (f : A → B) (items : List A) (terms : Terms) →
+        as_many (map f items) terms ≡ as_many items terms
+    as_many_map f [] NoTerms = refl
+    as_many_map f [] (TermThen term rest) = refl
+    as_many_map f (item ∷ items) NoTerms = refl
+    as_many_map f (item ∷ items) (TermThen term rest) = as_many_map f items rest
+
+-- what is said of parameters and arguments decides whether a body takes them
+pub arguments_fit : (names : List VarId) (body : Term) (group : Substitution) (terms : Terms) (said b : Bool) →
+    said ≡ as_many names terms → said ≡ b → with_arguments (names_of names) body group terms
+    ≡ cond b (Some (substitute body (taken_arguments (names_of names) terms ++ group))) None
+arguments_fit names body group terms said b e h =
+    ap (λ c. cond c (Some (substitute body (taken_arguments (names_of names) terms ++ group))) None)
+    (as_many_mapped (λ (name : VarId). name.0) names names terms said b refl e h)
 
 -- ---- a function that is seen through a cast
 
@@ -139,3 +161,21 @@ pub wrapped_is : (types : TypeRows) (store : Store) (world : WorldState) (v : Va
     (λ made. Goes (wrapped_call v label made) store world)
 wrapped_is types store world v from to arguments label =
     rows_enter types store world v arguments label (row_at types from) (row_at types to)
+
+-- what is entered through a cast goes on with the call of what is in the cast
+pub wrapped_becomes : (types : TypeRows) (store : Store) (world : WorldState) (whole function held next : Term)
+    (arguments made : Terms) (from label to answer wanted : ℕ) → whole ≡ Enter function arguments →
+    wrapper_in (as_value function) ≡ Some (from, label, to) →
+    option_map ValueTerm (wrapped_of (as_value function)) ≡ Some held →
+    wrapped_casts (row_at types from) (row_at types to) arguments label ≡ Some (made, answer, wanted) →
+    next ≡ Enter held made → after (enter_redex types store world whole) whole store world
+    ≡ record { moved = GoesOn; item = Cast next answer wanted label; store = store; world = world }
+wrapped_becomes types store world whole function held next arguments made from label to answer wanted e f g h k =
+    let seen = seen_through (as_value function) held from label to f g in
+    ap (λ x. after (enter_redex types store world x) x store world) e
+    ∙ ap (λ o. after o (Enter function arguments) store world)
+    (ap (λ o. with_some o (λ v. enter_step types store world v arguments Stuck)) seen.1
+    ∙ wrapped_is types store world seen.0 from to arguments label
+    ∙ ap (λ o. with_some o (λ made. Goes (wrapped_call seen.0 label made) store world)) h)
+    ∙ ap (λ x. after {A = Term} (Goes (Cast x answer wanted label) store world) (Enter function arguments) store world)
+    (ap (λ v. Enter v made) seen.2 ∙ sym k)

@@ -4,7 +4,9 @@ mod OperatorTurns
 mod Inside
 mod DynPlace
 mod Taking
+mod Gathering
 mod Entering
+mod Projecting
 mod Hiding
 mod Filling
 mod Running

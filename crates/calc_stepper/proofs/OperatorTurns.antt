@@ -1,17 +1,18 @@
 -- What a clause that speaks of all types, cells and worlds says of those at hand.
-use Rattle.std.proofs.Common.{◌≡◌, ℤ, sym, ap, ◌∙◌, subst, Option, Result, Ok, Err, List}
-use Rattle.std.specs.Prelude.{IfOk}
+use Rattle.std.proofs.Common.{◌≡◌, ℕ, ℤ, sym, ap, ◌∙◌, subst, Option, Some, None, Result, Ok, Err, List}
+use Rattle.std.specs.Prelude.{IfOk, option_and_then}
 use Rattle.grift_base.specs.World.{WorldState}
-use Rattle.grift_base.specs.Types.{TypeRows}
+use Rattle.grift_base.specs.Types.{TypeRow, TypeRows, content_of, row_at}
 use Rattle.grift_base.specs.declared.operators.PrimOp.{PrimOp}
-use Rattle.core_calc.specs.Terms.{Term, Terms, Value, Prim, ValueTerm, IntValue, all_values}
-use Rattle.core_calc.specs.Outcome.{Store, Outcome, Goes, with_some}
-use Rattle.core_calc.specs.Operators.{operator_step}
-use Rattle.calc_stepper.specs.Moves.{After, after}
+use Rattle.core_calc.specs.Terms.{Term, Terms, Value, Cast, Prim, ValueTerm, IntValue, NoTerms, TermThen, all_values}
+use Rattle.core_calc.specs.Outcome.{Store, Outcome, Goes, Stuck, with_some}
+use Rattle.core_calc.specs.Operators.{cast_written, operator_step}
+use Rattle.core_calc.proofs.Public.{none_is_not_some}
+use Rattle.calc_stepper.specs.Moves.{after}
 use Rattle.calc_stepper.specs.Redexes.{prim_redex}
 use Rattle.calc_stepper.specs.declared.moves.Moved.TheVariants.{Goes as GoesOn}
 use Rattle.calc_stepper.specs.declared.operators.Turn.{Turn}
-use Rattle.calc_stepper.specs.Turns.{LeadsTo, few, integers_step, on_integers}
+use Rattle.calc_stepper.specs.Turns.{LeadsTo, cast_operand, cast_where, few, integers_step, on_integers, turn_after}
 use Rattle.calc_stepper.proofs.OperatorCounts.{few_operands}
 
 -- the step gives a number, which is computed as another
@@ -61,15 +62,50 @@ values_passed operator first second a m b n turn is are e f h types store world 
     ∙ ap (λ (y : Value). on_integers types store world operator (IntValue m) y) (are ∙ ap IntValue (sym f)))
     (h types store world)
 
--- the operands of an operator are few values
+-- the operands of an operator are few values, and what they lead to is what stands then
 pub operator_taken : (types : TypeRows) (store : Store) (world : WorldState) (term : Term) (operator : PrimOp)
-    (operands : Terms) (found : Option (List Value)) (answer : After Term) → term ≡ Prim operator operands →
-    found ≡ few (all_values operands) →
-    after (with_some found (operator_step types store world operator)) term store world ≡ answer →
-    after (prim_redex types store world term) term store world ≡ answer
-operator_taken types store world term operator operands found answer is e h =
+    (operands : Terms) (found : Option (List Value)) (turn given : Turn) (next : Store) (next_world : WorldState) →
+    term ≡ Prim operator operands → found ≡ few (all_values operands) →
+    LeadsTo (with_some found (operator_step types store world operator)) store world turn next next_world →
+    turn ≡ given →
+    after (prim_redex types store world term) term store world
+    ≡ turn_after given (Prim operator operands) next next_world
+operator_taken types store world term operator operands found turn given next next_world is e h same =
     ap (λ (t : Term). after (prim_redex types store world t) term store world) is
     ∙ ap (λ (o : Outcome Term). after o term store world)
     (few_operands types store world operator (all_values operands))
     ∙ ap (λ (values : Option (List Value)). after (with_some values (operator_step types store world operator)) term
-    store world) (sym e) ∙ h
+    store world) (sym e) ∙ h term ∙ ap (λ (t : Turn). turn_after t term next next_world) same
+    ∙ ap (λ (t : Term). turn_after given t next next_world) is
+
+-- a write of a value through a wrapper goes on with the same write behind it, of the value in a cast
+module _ (types : TypeRows) (store : Store) (world : WorldState) (rest : Terms → Term) (v : Value) (label : ℕ) where
+  abbrev written : ℕ → ℕ → Outcome Term
+  written inner outer = Goes (rest (TermThen (Cast (ValueTerm v) outer inner label) NoTerms)) store world
+
+  contents_written : (a b : Option ℕ) (last : Terms) → cast_where a b v label ≡ Some last →
+      with_some a (λ inner. with_some b (written inner)) ≡ Goes (rest last) store world
+  contents_written (Some inner) (Some outer) last e = ap (λ o. with_some o (λ terms. Goes (rest terms) store world)) e
+  contents_written None b last e = absurd (none_is_not_some last e)
+  contents_written (Some inner) None last e = absurd (none_is_not_some last e)
+
+  rows_written : (o p : Option TypeRow) (last : Terms) →
+      cast_where (option_and_then content_of o) (option_and_then content_of p) v label ≡ Some last →
+      with_some o (λ row. with_some p (λ other. with_some (content_of row) (λ inner. with_some (content_of other)
+      (written inner)))) ≡ Goes (rest last) store world
+  rows_written (Some row) (Some other) last e = contents_written (content_of row) (content_of other) last e
+  rows_written None p last e = absurd (none_is_not_some last e)
+  rows_written (Some row) None last e = no_content (content_of row) e
+    where
+      no_content : (a : Option ℕ) → cast_where a None v label ≡ Some last →
+          Stuck ≡ Goes (rest last) store world
+      no_content None e = absurd (none_is_not_some last e)
+      no_content (Some inner) e = absurd (none_is_not_some last e)
+
+  pub written_through : (from to : ℕ) (last : Terms) (next old : Term) →
+      cast_operand types v from to label ≡ Some last → rest last ≡ next →
+      after (cast_written types store world (λ term. rest (TermThen term NoTerms)) v from to label) old store world
+      ≡ record { moved = GoesOn; item = next; store = store; world = world }
+  written_through from to last next old e f =
+      ap (λ o. after o old store world) (rows_written (row_at types from) (row_at types to) last e)
+      ∙ ap (λ x. after {A = Term} (Goes x store world) old store world) f

@@ -32,12 +32,12 @@ abbrev pub taken_values : Terms → Values
 taken_values NoTerms = NoValues
 taken_values (TermThen term rest) = value_or_rest (as_value term) (taken_values rest)
 
--- whether there are as many of the one as of the other
-abbrev pub as_many : List ℕ → Terms → Bool
+-- whether there are as many of these as terms
+abbrev pub as_many : {A : Type 0} → List A → Terms → Bool
 as_many [] NoTerms = true
 as_many [] (TermThen term rest) = false
-as_many (name ∷ names) NoTerms = false
-as_many (name ∷ names) (TermThen term rest) = as_many names rest
+as_many (item ∷ items) NoTerms = false
+as_many (item ∷ items) (TermThen term rest) = as_many items rest
 
 -- each term in a cast from one type to the other, as far as there are types
 abbrev pub casts : Terms → List ℕ → List ℕ → ℕ → Terms

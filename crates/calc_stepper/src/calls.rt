@@ -2,26 +2,25 @@
 // memory runs out.
 
 ghost use Rattle.std.specs.Prelude.{◌≡◌, IfNone, IfOk, None, OnErr, Some, false, if◌then◌else◌, option_map};
-ghost use Rattle.grift_base.specs.World.{WorldState};
-ghost use Rattle.grift_base.specs.Types.{TypeRows, row_at};
+ghost use Rattle.grift_base.specs.Types.{row_at};
 ghost use Rattle.type_graph.specs.Rows.{places_of};
-ghost use Rattle.core_calc.specs.Outcome.{Store};
 ghost use Rattle.core_calc.specs.Terms.{Cast, as_value};
 ghost use Rattle.core_calc.specs.Substitution.{group_values};
 ghost use Rattle.core_calc.specs.Views.{bindings_of, members_of, names_of, term_of, terms_of};
 ghost use Rattle.calc_stepper.specs.Entered.{entered, with_arguments};
 ghost use Rattle.calc_stepper.specs.Entries.{entries_of};
-ghost use Rattle.calc_stepper.specs.Moves.{after};
+ghost use Rattle.calc_stepper.specs.Moves.{Moves, MovesBy};
 ghost use Rattle.calc_stepper.specs.Redexes.{call_redex, enter_redex, group_redex, let_redex};
 ghost use Rattle.calc_stepper.specs.Taken.{as_many, casts, taken_arguments, taken_bindings, wrapped_casts};
 
-use crate::copies::{boxed, copy_as_value, copy_term};
+use crate::copies::{copy_as_value, copy_term};
 use crate::forms::{Wrapper, are_bound, are_values, row, unwrap_value, wrapper_of};
 use crate::lists::{term_then, terms_onto};
 use crate::moves::Moved;
 use crate::substitution::{Entry, push_entry, substitute};
 use core_calc::terms::{Core, CoreBindings, CoreList, GroupMembers, Value, VarId};
 use grift_base::lists::OutOfMemory;
+use grift_base::made::boxed;
 use grift_base::places::{LabelId, TypeId};
 use std::alloc::Global;
 use std::mem;
@@ -30,9 +29,7 @@ use type_graph::tables::TypeTable;
 
 /// Enters a call whose function and arguments are values.
 pub fn call_redex(alloc: Global, term: &mut Core) -> Result<Moved, OutOfMemory>
-    ensures moves { IfOk result (λ moved. (types : TypeRows) (store : Store) (world : WorldState)
-        → after (call_redex types store world (term_of term.old)) (term_of term.old) store world
-        ≡ record { moved = moved; item = term_of term.new; store = store; world = world }) }
+    ensures moves { IfOk result (MovesBy call_redex (term_of term.old) (term_of term.new)) }
     ensures stays { OnErr result (term_of term.new ≡ term_of term.old) }
 {
     let Core::Call(function, arguments) = term else {
@@ -47,9 +44,7 @@ pub fn call_redex(alloc: Global, term: &mut Core) -> Result<Moved, OutOfMemory>
 
 /// Puts the functions of a group into its body.
 pub fn group_redex(alloc: Global, term: &mut Core) -> Result<Moved, OutOfMemory>
-    ensures moves { IfOk result (λ moved. (types : TypeRows) (store : Store) (world : WorldState)
-        → after (group_redex types store world (term_of term.old)) (term_of term.old) store world
-        ≡ record { moved = moved; item = term_of term.new; store = store; world = world }) }
+    ensures moves { IfOk result (MovesBy group_redex (term_of term.old) (term_of term.new)) }
     ensures stays { OnErr result (term_of term.new ≡ term_of term.old) }
 {
     let Core::Group(members, body) = term else {
@@ -79,9 +74,7 @@ fn bound_entries(alloc: Global, bindings: &CoreBindings) -> Result<Vec<Entry>, O
 /// Puts bound values into the body.
 #[tactic(auto, using(crate::proofs::Taking::let_taken))]
 pub fn let_redex(alloc: Global, term: &mut Core) -> Result<Moved, OutOfMemory>
-    ensures moves { IfOk result (λ moved. (types : TypeRows) (store : Store) (world : WorldState)
-        → after (let_redex types store world (term_of term.old)) (term_of term.old) store world
-        ≡ record { moved = moved; item = term_of term.new; store = store; world = world }) }
+    ensures moves { IfOk result (MovesBy let_redex (term_of term.old) (term_of term.new)) }
     ensures stays { OnErr result (term_of term.new ≡ term_of term.old) }
 {
     let Core::Let(bindings, body) = term else {
@@ -98,36 +91,20 @@ pub fn let_redex(alloc: Global, term: &mut Core) -> Result<Moved, OutOfMemory>
     Ok(Moved::Goes)
 }
 
-// Whether there are as many names as terms.
-fn as_many_names(names: &[VarId], terms: &CoreList) -> bool
-    ensures { result ≡ as_many (names_of names.now) (terms_of terms.now) }
+// Whether there are as many of these as terms.
+fn as_many<T>(items: &[T], terms: &CoreList) -> bool
+    ensures { result ≡ as_many items.now (terms_of terms.now) }
 {
-    let mut names = names;
+    let mut items = items;
     let mut left = terms;
     while let CoreList::Cons(_, rest) = left {
-        let [_, others @ ..] = names else {
+        let [_, others @ ..] = items else {
             return false;
         };
-        names = others;
+        items = others;
         left = rest;
     }
-    matches!(names, [])
-}
-
-// Whether there are as many types as terms.
-fn as_many_types(types: &[TypeId], terms: &CoreList) -> bool
-    ensures { result ≡ as_many (places_of types.now) (terms_of terms.now) }
-{
-    let mut types = types;
-    let mut left = terms;
-    while let CoreList::Cons(_, rest) = left {
-        let [_, others @ ..] = types else {
-            return false;
-        };
-        types = others;
-        left = rest;
-    }
-    matches!(types, [])
+    matches!(items, [])
 }
 
 // Names with copies of the values of arguments, as far as there are both.
@@ -170,7 +147,7 @@ fn put_arguments(
     ensures same { IfOk result (λ b. (b ≡ false) → term_of body.new ≡ term_of body.old) }
     ensures stays { OnErr result (term_of body.new ≡ term_of body.old) }
 {
-    if !as_many_names(params, arguments) {
+    if !as_many(params, arguments) {
         return Ok(false);
     }
     let entries = argument_entries(alloc, params, arguments)?;
@@ -178,8 +155,8 @@ fn put_arguments(
     Ok(true)
 }
 
-// A copy of a body, with arguments in the place of as many parameters, and with the functions of a group in the place of
-// their names. None where the numbers differ.
+// A copy of a body, with arguments in the place of as many parameters, and with the functions of a group in the place
+// of their names. None where the numbers differ.
 fn copy_entered(
     alloc: Global,
     params: &[VarId],
@@ -262,10 +239,10 @@ fn wrapped_casts(
     let Some(Row::Fun(outer, wanted)) = row(types, wrapper.to) else {
         return Ok(None);
     };
-    if !as_many_types(outer.as_slice(), arguments) {
+    if !as_many(outer.as_slice(), arguments) {
         return Ok(None);
     }
-    if !as_many_types(inner.as_slice(), arguments) {
+    if !as_many(inner.as_slice(), arguments) {
         return Ok(None);
     }
     let outer = outer.as_slice();
@@ -312,9 +289,7 @@ fn entered(
 /// Enters a function: one that is seen through a cast with its arguments in casts, and any other with values in the
 /// place of its parameters and of the names of its group.
 pub fn enter_redex(alloc: Global, types: &TypeTable, term: &mut Core) -> Result<Moved, OutOfMemory>
-    ensures moves { IfOk result (λ moved. (store : Store) (world : WorldState)
-        → after (enter_redex types.now store world (term_of term.old)) (term_of term.old) store world
-        ≡ record { moved = moved; item = term_of term.new; store = store; world = world }) }
+    ensures moves { IfOk result (Moves (enter_redex types.now) (term_of term.old) (term_of term.new)) }
     ensures stays { OnErr result (term_of term.new ≡ term_of term.old) }
 {
     let Core::Enter(function, arguments) = term else {

@@ -1,14 +1,12 @@
 // Casts and parts of values.
 
 ghost use Rattle.std.specs.Prelude.{◌≡◌, IfNone, IfOk, OnErr, option_map};
-ghost use Rattle.grift_base.specs.World.{WorldState};
-ghost use Rattle.core_calc.specs.Outcome.{Store};
 ghost use Rattle.core_calc.specs.Terms.{as_value};
 ghost use Rattle.core_calc.specs.Views.{term_of, value_of};
-ghost use Rattle.calc_stepper.specs.Moves.{after};
+ghost use Rattle.calc_stepper.specs.Moves.{Moves};
 ghost use Rattle.calc_stepper.specs.Redexes.{cast_redex, dyn_part_asked, part_asked, proj_dyn_redex, proj_redex};
 
-use crate::copies::{boxed, boxed_value, copy_value};
+use crate::copies::copy_value;
 use crate::forms::{
     dyn_type, is_base, is_dyn, is_value, part_of, row, same_head, take_injected, take_value,
     unwrap_value, wrapper_of,
@@ -16,7 +14,7 @@ use crate::forms::{
 use crate::moves::Moved;
 use core_calc::terms::{Core, Value};
 use grift_base::lists::OutOfMemory;
-use grift_base::made::both_boxed;
+use grift_base::made::{both_boxed, boxed};
 use grift_base::places::LabelId;
 use std::alloc::Global;
 use std::mem;
@@ -28,7 +26,7 @@ fn take_boxed(alloc: Global, term: &mut Core) -> Result<Option<Box<Value>>, OutO
     ensures same { IfOk result (λ o. IfNone o (term_of term.new ≡ term_of term.old)) }
     ensures stays { OnErr result (term_of term.new ≡ term_of term.old) }
 {
-    let mut place = boxed_value(alloc, Value::Unit)?;
+    let mut place = boxed(alloc, Value::Unit)?;
     let Some(v) = take_value(term) else {
         return Ok(None);
     };
@@ -38,9 +36,7 @@ fn take_boxed(alloc: Global, term: &mut Core) -> Result<Option<Box<Value>>, OutO
 
 /// Casts a value.
 pub fn cast_redex(alloc: Global, types: &TypeTable, term: &mut Core) -> Result<Moved, OutOfMemory>
-    ensures moves { IfOk result (λ moved. (store : Store) (world : WorldState)
-        → after (cast_redex types.now store world (term_of term.old)) (term_of term.old) store world
-        ≡ record { moved = moved; item = term_of term.new; store = store; world = world }) }
+    ensures moves { IfOk result (Moves (cast_redex types.now) (term_of term.old) (term_of term.new)) }
     ensures stays { OnErr result (term_of term.new ≡ term_of term.old) }
 {
     let Core::Cast(inner, from, to, label) = term else {
@@ -109,9 +105,7 @@ fn dyn_part_asked(term: &Core) -> Option<(i64, LabelId)>
 
 /// Projects a part of a tuple.
 pub fn proj_redex(alloc: Global, types: &TypeTable, term: &mut Core) -> Result<Moved, OutOfMemory>
-    ensures moves { IfOk result (λ moved. (store : Store) (world : WorldState)
-        → after (proj_redex types.now store world (term_of term.old)) (term_of term.old) store world
-        ≡ record { moved = moved; item = term_of term.new; store = store; world = world }) }
+    ensures moves { IfOk result (Moves (proj_redex types.now) (term_of term.old) (term_of term.new)) }
     ensures stays { OnErr result (term_of term.new ≡ term_of term.old) }
 {
     let Some(k) = part_asked(term) else {
@@ -155,9 +149,7 @@ pub fn proj_dyn_redex(
     types: &TypeTable,
     term: &mut Core,
 ) -> Result<Moved, OutOfMemory>
-    ensures moves { IfOk result (λ moved. (store : Store) (world : WorldState)
-        → after (proj_dyn_redex types.now store world (term_of term.old)) (term_of term.old) store world
-        ≡ record { moved = moved; item = term_of term.new; store = store; world = world }) }
+    ensures moves { IfOk result (Moves (proj_dyn_redex types.now) (term_of term.old) (term_of term.new)) }
     ensures stays { OnErr result (term_of term.new ≡ term_of term.old) }
 {
     let Some((k, label)) = dyn_part_asked(term) else {

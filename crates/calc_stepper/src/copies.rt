@@ -12,21 +12,8 @@ use core_calc::terms::{
     Core, CoreBinding, CoreBindings, CoreList, GroupMember, GroupMembers, Value, Values, VarIds,
 };
 use grift_base::lists::OutOfMemory;
+use grift_base::made::boxed;
 use std::alloc::Global;
-
-/// A term in a box.
-pub fn boxed(alloc: Global, term: Core) -> Result<Box<Core>, OutOfMemory>
-    ensures { IfOk result (λ b. b.value ≡ term) }
-{
-    Ok(Box::new(alloc, term)?)
-}
-
-/// A value in a box.
-pub fn boxed_value(alloc: Global, v: Value) -> Result<Box<Value>, OutOfMemory>
-    ensures { IfOk result (λ b. b.value ≡ v) }
-{
-    Ok(Box::new(alloc, v)?)
-}
 
 /// The same names again.
 pub fn copy_names(alloc: Global, names: &VarIds) -> Result<VarIds, OutOfMemory>
@@ -53,7 +40,7 @@ fn copy_value_in_box(alloc: Global, v: &Value) -> Result<Box<Value>, OutOfMemory
     ensures { IfOk result (λ copy. value_of copy.value ≡ value_of v.now) }
 {
     let copy = copy_value(alloc, v)?;
-    boxed_value(alloc, copy)
+    boxed(alloc, copy)
 }
 
 // The parameters and the body of a function again.

@@ -18,13 +18,14 @@ ghost use Rattle.calc_stepper.specs.Turns.{HasElement, LeadsTo, cast_operand, el
 ghost use Rattle.calc_stepper.specs.Turns.{few, integers_step, on_integers, one_step, only_value, place_below};
 ghost use Rattle.calc_stepper.specs.Turns.{three_step, two_step, values_in, vector_cell, zero_step};
 
-use crate::copies::{boxed, copy_as_value, copy_value};
+use crate::copies::{copy_as_value, copy_value};
 use crate::forms::content_of;
 use crate::lists::term_then;
 use crate::moves::Moved;
 use core_calc::states::Cells;
 use core_calc::terms::{Core, CoreList, Value};
 use grift_base::lists::OutOfMemory;
+use grift_base::made::boxed;
 use grift_base::operators::PrimOp;
 use grift_base::places::{LabelId, MOST_ENTRIES, TypeId};
 use grift_base::verdicts::Trap;
@@ -288,12 +289,7 @@ fn unbox(
         turn (store_of store.now) world) }
 {
     match &mut target {
-        Value::Loc(cell, is_vector) => {
-            if *is_vector {
-                return Ok(Turn::Stuck);
-            }
-            read_box(alloc, store, *cell)
-        }
+        Value::Loc(cell, false) => read_box(alloc, store, *cell),
         Value::Wrap(inner, from, label, to) => {
             let inner = Core::Value(mem::replace(&mut **inner, Value::Unit));
             let operands = term_then(alloc, inner, CoreList::Nil)?;
@@ -333,12 +329,7 @@ fn box_set(
     ensures err { OnErr result (store_of store.new ≡ store_of store.old) }
 {
     match &mut target {
-        Value::Loc(cell, is_vector) => {
-            if *is_vector {
-                return Ok(Turn::Stuck);
-            }
-            write_box(alloc, store, *cell, v)
-        }
+        Value::Loc(cell, false) => write_box(alloc, store, *cell, v),
         Value::Wrap(inner, from, label, to) => {
             let inner = Core::Value(mem::replace(&mut **inner, Value::Unit));
             let Some(last) = cast_written(alloc, types, v, *from, *label, *to)? else {
@@ -416,12 +407,7 @@ fn vector_ref(
         (store_of store.now) world turn (store_of store.now) world) }
 {
     match &mut vector {
-        Value::Loc(cell, is_vector) => {
-            if !*is_vector {
-                return Ok(Turn::Stuck);
-            }
-            read_vector(alloc, store, *cell, &index)
-        }
+        Value::Loc(cell, true) => read_vector(alloc, store, *cell, &index),
         Value::Wrap(inner, from, label, to) => {
             let inner = Core::Value(mem::replace(&mut **inner, Value::Unit));
             let operands = term_then(alloc, Core::Value(index), CoreList::Nil)?;
@@ -528,12 +514,7 @@ fn vector_length(alloc: Global, store: &Cells, mut vector: Value) -> Result<Turn
         (store_of store.now) world turn (store_of store.now) world) }
 {
     match &mut vector {
-        Value::Loc(cell, is_vector) => {
-            if !*is_vector {
-                return Ok(Turn::Stuck);
-            }
-            cell_length(store, *cell)
-        }
+        Value::Loc(cell, true) => cell_length(store, *cell),
         Value::Wrap(inner, _, _, _) => {
             let inner = Core::Value(mem::replace(&mut **inner, Value::Unit));
             let operands = term_then(alloc, inner, CoreList::Nil)?;

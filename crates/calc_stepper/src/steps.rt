@@ -3,19 +3,16 @@
 ghost use Rattle.std.specs.Prelude.{◌≡◌, IfOk, OnErr, true};
 ghost use Rattle.core_calc.specs.States.{store_of};
 ghost use Rattle.core_calc.specs.Step.{step, step_bindings, step_terms};
-ghost use Rattle.grift_base.specs.World.{WorldState};
-ghost use Rattle.grift_base.specs.Types.{TypeRows};
-ghost use Rattle.core_calc.specs.Outcome.{Store};
 ghost use Rattle.calc_stepper.specs.Redexes.{enters_now, if_redex, is_redex, lambda_redex, seq_redex};
 ghost use Rattle.calc_stepper.specs.Redexes.{tuple_redex, waits_for_first};
 ghost use Rattle.core_calc.specs.Terms.{as_value};
 ghost use Rattle.calc_stepper.specs.Taken.{taken_values};
 ghost use Rattle.core_calc.specs.Views.{bindings_of, term_of, terms_of, values_of};
-ghost use Rattle.calc_stepper.specs.Moves.{after};
+ghost use Rattle.calc_stepper.specs.Moves.{MovesBy, after};
 
 use crate::calls::{call_redex, enter_redex, group_redex, let_redex};
 use crate::casts::{cast_redex, proj_dyn_redex, proj_redex};
-use crate::copies::{boxed, copy_as_value};
+use crate::copies::copy_as_value;
 use crate::forms::{are_bound, are_values, is_value, wrapper_of};
 use crate::lists::{bindings_onto, terms_onto, value_then, values_onto};
 use crate::moves::Moved;
@@ -23,6 +20,7 @@ use crate::operators::prim_redex;
 use core_calc::states::Cells;
 use core_calc::terms::{Core, CoreBindings, CoreList, Value, Values, VarIds};
 use grift_base::lists::OutOfMemory;
+use grift_base::made::boxed;
 use grift_base::worlds::World;
 use std::alloc::Global;
 use std::mem;
@@ -30,9 +28,7 @@ use type_graph::tables::TypeTable;
 
 // A function becomes a value.
 fn lambda_redex(alloc: Global, term: &mut Core) -> Result<Moved, OutOfMemory>
-    ensures moves { IfOk result (λ moved. (types : TypeRows) (store : Store) (world : WorldState)
-        → after (lambda_redex types store world (term_of term.old)) (term_of term.old) store world
-        ≡ record { moved = moved; item = term_of term.new; store = store; world = world }) }
+    ensures moves { IfOk result (MovesBy lambda_redex (term_of term.old) (term_of term.new)) }
     ensures stays { OnErr result (term_of term.new ≡ term_of term.old) }
 {
     let Core::Lambda(params, body, ty) = term else {
@@ -48,9 +44,7 @@ fn lambda_redex(alloc: Global, term: &mut Core) -> Result<Moved, OutOfMemory>
 
 // The branch of a truth value.
 fn if_redex(term: &mut Core) -> Moved
-    ensures { (types : TypeRows) (store : Store) (world : WorldState)
-        → after (if_redex types store world (term_of term.old)) (term_of term.old) store world
-        ≡ record { moved = result; item = term_of term.new; store = store; world = world } }
+    ensures { MovesBy if_redex (term_of term.old) (term_of term.new) result }
 {
     let Core::If(condition, on_true, on_false) = term else {
         return Moved::Stuck;
@@ -73,9 +67,7 @@ fn if_redex(term: &mut Core) -> Moved
 
 // Of a sequence: its only term, or the terms behind the first.
 fn seq_redex(term: &mut Core) -> Moved
-    ensures { (types : TypeRows) (store : Store) (world : WorldState)
-        → after (seq_redex types store world (term_of term.old)) (term_of term.old) store world
-        ≡ record { moved = result; item = term_of term.new; store = store; world = world } }
+    ensures { MovesBy seq_redex (term_of term.old) (term_of term.new) result }
 {
     let Core::Seq(terms) = term else {
         return Moved::Stuck;
@@ -128,9 +120,7 @@ fn taken_values(alloc: Global, terms: &CoreList) -> Result<Values, OutOfMemory>
 // A tuple of values becomes a value.
 #[tactic(auto, using(crate::proofs::Taking::tuple_taken))]
 fn tuple_redex(alloc: Global, term: &mut Core) -> Result<Moved, OutOfMemory>
-    ensures moves { IfOk result (λ moved. (types : TypeRows) (store : Store) (world : WorldState)
-        → after (tuple_redex types store world (term_of term.old)) (term_of term.old) store world
-        ≡ record { moved = moved; item = term_of term.new; store = store; world = world }) }
+    ensures moves { IfOk result (MovesBy tuple_redex (term_of term.old) (term_of term.new)) }
     ensures stays { OnErr result (term_of term.new ≡ term_of term.old) }
 {
     let Core::Tuple(parts) = term else {

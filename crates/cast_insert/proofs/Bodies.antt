@@ -1,5 +1,5 @@
--- Bodies: names that are left, and lists that are turned round.
-use Rattle.std.proofs.Common.{◌≡◌, List, length, sym, ap, ◌∙◌}
+-- Bodies: names that are left, lists that are turned round, and the first element of one.
+use Rattle.std.proofs.Common.{◌≡◌, ◌≤◌, ◌-◌, List, [], ◌∷◌, length, take, take_all, get_or, sym, ap, ◌∙◌, arith}
 use Rattle.std.specs.Prelude.{drop}
 use Rattle.std.proofs.lemmas.List.{length-map}
 use Rattle.cast_insert.specs.declared.names.Named.{Named}
@@ -28,3 +28,10 @@ heads_left heads environment =
     ∙ with_names_drop (names_of_heads (heads_seen heads)) environment
 
 pub ruleset body_steps = (names_left, heads_left, bindings_turned, members_turned)
+
+-- a list whose first element is known
+pub first_split : {A : Type 0} (xs : List A) (x : A) → 1 ≤ length xs → x ≡ get_or xs 0 x →
+    xs ≡ x ∷ take (length xs - 1) (drop 1 xs)
+first_split [] x some e = absurd (omega arith)
+first_split (y ∷ ys) x some e =
+    ap (λ z. z ∷ ys) (sym e) ∙ ap (λ zs. x ∷ zs) (sym (take_all (length (y ∷ ys) - 1) ys (omega arith)))

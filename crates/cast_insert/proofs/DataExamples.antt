@@ -6,12 +6,12 @@ use Rattle.grift_base.specs.declared.operators.PrimOp.TheVariants.{MakeBox, Unbo
 use Rattle.grift_base.specs.declared.operators.PrimOp.TheVariants.{VectorSet, VectorLength}
 use Rattle.grift_base.specs.declared.refusals.RefusalKind.TheVariants.{NotConsistent, NotTuple, NoSuchPart, NotRef}
 use Rattle.grift_base.specs.declared.refusals.RefusalKind.TheVariants.{NotVector, TypeTooLarge}
-use Rattle.grift_base.specs.Types.{IntRow, BoolRow, UnitRow, DynRow, TupleRow, RefRow, VectRow}
+use Rattle.grift_base.specs.Types.{TypeRow, IntRow, BoolRow, UnitRow, DynRow, TupleRow, RefRow, VectRow}
 use Rattle.core_calc.specs.Terms.{IntLit, BoolLit, UnitLit, Cast, Proj, ProjDyn, Tuple, Prim, terms_from}
 use Rattle.surface_trees.specs.declared.names.Ident.TheVariants.{Source}
 use Rattle.surface_trees.specs.Trees.{ExprAt, UnitNode, LetNode, AscribeNode, TupleNode, ProjNode, PrimNode, NoLets}
 use Rattle.surface_trees.specs.Trees.{LetThen}
-use Rattle.cast_insert.specs.Making.{then_make, Makes, CastFrom, PartOf}
+use Rattle.cast_insert.specs.Making.{then_make, Makes, Work, CastFrom, PartOf}
 use Rattle.cast_insert.specs.Elaboration.{elaborate_program}
 use Rattle.cast_insert.specs.Outcomes.{IsRefused}
 use Rattle.cast_insert.proofs.Sketches.{at, answer, comes_to, int, truth, name, exprs, base}
@@ -259,18 +259,21 @@ sum : elaborate_program (ExprAt (at 1) (PrimNode Add (exprs ((int 4 1) ∷ (int 
 unfolding then_make
 sum = refl
 
+-- what a cast from this row to Dyn, and the one back, leave behind
+abbrev through_dyn : TypeRow → Work
+through_dyn row = record {
+  types = row ∷ DynRow ∷ [];
+  labels = at 6 ∷ [];
+  casts = CastFrom 0 0 1 None ∷ CastFrom 0 1 0 (Some 0) ∷ [];
+  next = 0;
+}
+
 -- (+ 1 (: 2 Dyn))
 sum_cast : elaborate_program (ExprAt (at 1) (PrimNode Add (exprs ((int 4 1) ∷ (ExprAt (at 6) (AscribeNode (int 9 2)
     (base 11 DynRow))) ∷ []))))
     ≡ Makes (answer (Prim Add (terms_from ((IntLit (pos 1)) ∷ (Cast (Cast (IntLit (pos 2)) 0 1 0) 1 0 0) ∷ []))) 0
     None)
-    (record {
-      types = (IntRow ∷ DynRow ∷ []);
-      labels = (at 6 ∷ []);
-      casts = (CastFrom 0 0 1 None ∷ CastFrom 0 1 0
-          (Some 0) ∷ []);
-      next = 0;
-    })
+    (through_dyn IntRow)
 unfolding then_make
 sum_cast = refl
 
@@ -298,13 +301,7 @@ not_truth = refl
 not_dyn : elaborate_program (ExprAt (at 1) (PrimNode Not (exprs ((ExprAt (at 6) (AscribeNode (truth 9 true) (base 12
     DynRow))) ∷ []))))
     ≡ Makes (answer (Prim Not (terms_from ((Cast (Cast (BoolLit true) 0 1 0) 1 0 0) ∷ []))) 0 None)
-    (record {
-      types = (BoolRow ∷ DynRow ∷ []);
-      labels = (at 6 ∷ []);
-      casts = (CastFrom 0 0 1 None ∷ CastFrom 0 1 0
-          (Some 0) ∷ []);
-      next = 0;
-    })
+    (through_dyn BoolRow)
 unfolding then_make
 not_dyn = refl
 

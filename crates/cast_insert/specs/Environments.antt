@@ -86,12 +86,9 @@ abbrev pub consistent_if : Pos → Option ℕ → ℕ → Making Bool
 consistent_if place (Some type) other = are_consistent place type other
 consistent_if place None other = give true
 
--- the types of a member: those of its parameters, its result type and its own written type, then the lambda's type
-abbrev pub head_of : Ident → Option TypeExpr → LambdaExpr → Making Head
-head_of name own (LambdaAt place parameters result body) = do
-  types ← parameter_types parameters
-  answer ← type_or_dyn result
-  wanted ← written_if own
+-- what is left of a head when its written types are formed
+abbrev pub head_of_types : Ident → Pos → List ℕ → ℕ → Option ℕ → Making Head
+head_of_types name place types answer wanted = do
   type ← form (intern (FunRow types answer))
   not_too_large place type
   consistent_if place wanted type
@@ -102,6 +99,14 @@ head_of name own (LambdaAt place parameters result body) = do
     parameters = types;
     answer = answer;
   })
+
+-- the types of a member: those of its parameters, its result type and its own written type, then the lambda's type
+abbrev pub head_of : Ident → Option TypeExpr → LambdaExpr → Making Head
+head_of name own (LambdaAt place parameters result body) = do
+  types ← parameter_types parameters
+  answer ← type_or_dyn result
+  wanted ← written_if own
+  head_of_types name place types answer wanted
 
 abbrev pub heads_of : LetrecMembers → Making (List Head)
 heads_of NoLetrecs = give []

@@ -87,22 +87,23 @@ pub record Held : Type 0 where
 abbrev pub holds : Typed → ℕ → Held
 holds e content = record { held = e; content = Some content }
 
+-- a term of type Dyn as a box or a vector of Dyn, whose row this is
+abbrev pub opened_as : TypeRow → Pos → Typed → Making Held
+opened_as row place e = do
+  whole ← form (intern row)
+  opened ← cast_at place e whole
+  give (holds opened e.type)
+
 -- a term as a box, by the row of its type
 abbrev pub box_by : Pos → Typed → Option TypeRow → Making Held
 box_by place e (Some (RefRow content)) = give (holds e content)
-box_by place e (Some DynRow) = do
-  box ← form (intern (RefRow e.type))
-  opened ← cast_at place e box
-  give (holds opened e.type)
+box_by place e (Some DynRow) = opened_as (RefRow e.type) place e
 box_by place e _ = refuse NotRef place
 
 -- a term as a vector, by the row of its type
 abbrev pub vector_by : Pos → Typed → Option TypeRow → Making Held
 vector_by place e (Some (VectRow content)) = give (holds e content)
-vector_by place e (Some DynRow) = do
-  vector ← form (intern (VectRow e.type))
-  opened ← cast_at place e vector
-  give (holds opened e.type)
+vector_by place e (Some DynRow) = opened_as (VectRow e.type) place e
 vector_by place e _ = refuse NotVector place
 
 abbrev pub with_content : Option ℕ → Typed → Held

@@ -1,4 +1,4 @@
-// Refusals, boxes, and names that are copied.
+// Refusals, and names that are copied.
 
 ghost use Rattle.std.specs.Prelude.{◌≡◌, ◌∷◌, Err, IfOk, OnOk};
 
@@ -12,13 +12,6 @@ pub(crate) fn refused<T>(kind: RefusalKind, pos: Pos) -> Result<T, FrontFault>
     ensures { result ≡ Err (FrontFault.Refused (record { kind = kind; pos = pos })) }
 {
     Err(FrontFault::Refused(Refusal { kind, pos }))
-}
-
-/// A value on the heap.
-pub(crate) fn boxed<T: Drop>(alloc: Global, value: T) -> Result<Box<T>, OutOfMemory>
-    ensures { IfOk result (λ b. b.value ≡ value) }
-{
-    Ok(Box::new(alloc, value)?)
 }
 
 /// The same name again.

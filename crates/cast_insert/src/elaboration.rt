@@ -28,7 +28,7 @@ ghost use Rattle.cast_insert.specs.Bodies.{bindings_onto, body_of, bound_of, fun
 ghost use Rattle.cast_insert.specs.Bodies.{lambda_with, member_with, members_onto, operation_on, sequence_of};
 ghost use Rattle.cast_insert.specs.Views.{Answers, place_if, typed_of, work_of};
 
-use crate::copies::{boxed, refused};
+use crate::copies::refused;
 use crate::heads::{Head, heads};
 use crate::joining::{
     Given, Placed, called_dyn, given_first, joined, literal, plain, projected, terms_first, tuple,
@@ -42,6 +42,7 @@ use core_calc::terms::{
     Core, CoreBinding, CoreBindings, CoreList, GroupMember, GroupMembers, VarId, VarIds,
 };
 use grift_base::lists::OutOfMemory;
+use grift_base::made::boxed;
 use grift_base::operators::PrimOp;
 use grift_base::places::{Pos, TypeId};
 use grift_base::refusals::{FrontFault, RefusalKind};

@@ -5,9 +5,9 @@ ghost use Rattle.std.specs.Prelude.{◌≡◌, ◌≤◌, ◌∷◌, ◌++◌, [
 ghost use Rattle.type_graph.specs.Rows.{places_of};
 ghost use Rattle.type_graph.specs.TypeTables.{MayBePart};
 ghost use Rattle.surface_trees.specs.Views.{lambda_of, letrecs_of, written_of};
-ghost use Rattle.cast_insert.specs.Environments.{head_of, heads_of, names_of_heads, with_names};
+ghost use Rattle.cast_insert.specs.Environments.{head_of, head_of_types, heads_of, names_of_heads, with_names};
 ghost use Rattle.cast_insert.specs.Environments.{consistent_if};
-ghost use Rattle.cast_insert.specs.Heads.{head_of_types, head_seen, heads_seen, lambda_in, name_in, place_in};
+ghost use Rattle.cast_insert.specs.Heads.{head_seen, heads_seen, lambda_in, name_in, place_in};
 ghost use Rattle.cast_insert.specs.Heads.{written_in};
 ghost use Rattle.cast_insert.specs.Programs.{AreSourceMembers, IsSourceLambda, MayBeWritten};
 ghost use Rattle.cast_insert.specs.Room.{AreParts, Grows};

@@ -25,12 +25,26 @@ use type_graph::tables::TypeTable;
 
 /// A program with its casts: its term and its type, the labels that may be blamed in order of first use, and the
 /// casts and parts in the order in which they are formed.
-#[derive(Drop)]
 pub struct Elab {
     pub core: Core,
     pub ty: TypeId,
     pub labels: LabelTable,
     pub casts: CastList,
+}
+
+// By hand, so that each place where one goes is one call.
+impl Drop for Elab {
+    fn drop(self) {
+        let Elab {
+            core,
+            ty: _,
+            labels,
+            casts,
+        } = self;
+        drop(core);
+        drop(labels);
+        drop(casts);
+    }
 }
 
 // The elaboration of a program from nothing on.

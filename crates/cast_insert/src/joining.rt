@@ -16,13 +16,14 @@ ghost use Rattle.cast_insert.specs.Gathered.{tuple_of};
 ghost use Rattle.cast_insert.specs.Room.{AreParts, Grows};
 
 use crate::casts::CastEntry;
-use crate::copies::{boxed, put_first, refused};
+use crate::copies::{put_first, refused};
 use crate::names::Meaning;
 use crate::progress::{Progress, Typed};
 use consistency::blends::blend;
 use consistency::checks::consistent;
 use core_calc::terms::{Core, CoreList};
 use grift_base::lists::OutOfMemory;
+use grift_base::made::boxed;
 use grift_base::places::{Pos, TypeId};
 use grift_base::refusals::{FrontFault, RefusalKind};
 use std::alloc::Global;

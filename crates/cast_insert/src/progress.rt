@@ -14,11 +14,12 @@ ghost use Rattle.cast_insert.specs.Room.{Grows, AreParts, MayPart};
 ghost use Rattle.cast_insert.specs.Views.{Answers, entry_of, place_if, typed_of, work_of};
 
 use crate::casts::{CastEntry, CastList};
-use crate::copies::{boxed, refused};
+use crate::copies::refused;
 use crate::written::{form_type, put};
 use consistency::checks::consistent;
 use core_calc::terms::{Core, VarId};
 use grift_base::lists::OutOfMemory;
+use grift_base::made::boxed;
 use grift_base::places::{LabelId, LabelTable, Pos, TypeId};
 use grift_base::refusals::{FrontFault, RefusalKind};
 use std::alloc::Global;

@@ -3,22 +3,4 @@
 #![tactic(auto)]
 
 #[cfg(test)]
-mod codes;
-#[cfg(test)]
-mod coercions;
-#[cfg(test)]
-mod compositions;
-#[cfg(test)]
-mod machines;
-#[cfg(test)]
-mod pools;
-#[cfg(test)]
-mod proxies;
-#[cfg(test)]
-mod random;
-#[cfg(test)]
-mod rows;
-#[cfg(test)]
-mod samples;
-#[cfg(test)]
-mod trees;
+mod tests;

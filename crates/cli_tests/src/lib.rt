@@ -3,26 +3,4 @@
 #![tactic(auto)]
 
 #[cfg(test)]
-mod calling;
-#[cfg(test)]
-mod calls;
-#[cfg(test)]
-mod commands;
-#[cfg(test)]
-mod files;
-#[cfg(test)]
-mod images;
-#[cfg(test)]
-mod limits;
-#[cfg(test)]
-mod listings;
-#[cfg(test)]
-mod outside;
-#[cfg(test)]
-mod programs;
-#[cfg(test)]
-mod sources;
-#[cfg(test)]
-mod spaces;
-#[cfg(test)]
-mod words;
+mod tests;

@@ -1,21 +1,17 @@
 -- What follows from results, and how the forms that end a body answer.
-use Rattle.std.proofs.Common.{◌≡◌, Result, Ok, Err, Option, Some, None, length, sym, ◌∙◌, subst}
+use Rattle.std.proofs.Common.{◌≡◌, Result, Ok, Err, Option, Some, None, subst}
 use Rattle.std.specs.Prelude.{IfOk, OnOk, MatchOption}
-use Rattle.grift_base.specs.declared.lists.OutOfMemory.{OutOfMemory}
 use Rattle.flat_ir.specs.declared.code.FlatBody.{FlatBody}
-use Rattle.flat_ir.specs.Bodies.{Body}
 use Rattle.flat_ir.specs.Views.{body_of}
-use Rattle.coer_core.specs.Counts.{free_names}
 use Rattle.coer_core.specs.Terms.{RowTerm}
 use Rattle.coer_core.specs.Views.{row_term_of}
 use Rattle.coer_core.specs.declared.terms.CoerTerm.{CoerTerm}
 use Rattle.closure_convert.specs.declared.conversion.Converter.{Converter}
 use Rattle.closure_convert.specs.declared.waits.Waits.{Waits}
-use Rattle.closure_convert.specs.Conversion.{Scope, code, made, procs_of}
-use Rattle.closure_convert.specs.Converting.{State, Adds, seen, state}
-use Rattle.closure_convert.specs.Scopes.{Reaches, known}
+use Rattle.closure_convert.specs.Converting.{state}
+use Rattle.closure_convert.specs.Keeping.{Opened}
+use Rattle.closure_convert.specs.Scopes.{known}
 use Rattle.closure_convert.specs.Waits.{ahead}
-use Rattle.closure_convert.proofs.Adding.{grows}
 use Rattle.closure_convert.proofs.Ending.{Ended}
 
 -- what holds in any case holds where there is an answer
@@ -49,52 +45,15 @@ in_some P Q r a e m = subst (λ x. MatchOption x P Q) e m
 pub in_none : {A : Type 0} (P : Type 0) (Q : A → Type 0) (r : Option A) → r ≡ None → MatchOption r P Q → P
 in_none P Q r e m = subst (λ x. MatchOption x P Q) e m
 
--- a form that ends a body, from what was known, what waits and what is left of the term: where there is an answer, it
--- is the body for that, and this is known then
-pub record Ends (r : Result FlatBody OutOfMemory) (before : Converter) (b : State) (waits : Waits) (left : CoerTerm)
-    : Type 0 where
-  pub ended : IfOk r (λ body. Ended (known before.names) (state before) b waits.waits.items waits.depth
-      (row_term_of left) (body_of body))
+-- the last body for a term, from what was known and what waited to what is known and waits then
+pub record Ends (before after : Converter) (waits later : Waits) (term : CoerTerm) (last : FlatBody) : Type 0 where
+  pub opened : Opened before.names after.names
+  pub ended : Ended (known before.names) (state before) (state after) waits.waits.items waits.depth (row_term_of term)
+      (ahead later.waits.items (body_of last))
 
--- by the form
-pub ends : {r : Result FlatBody OutOfMemory} {before : Converter} {b : State} {waits : Waits} {left : CoerTerm}
-    (t : RowTerm) (want : Body) → row_term_of left ≡ t
-    → ((body : FlatBody) → body_of body ≡ want
-    → Ended (known before.names) (state before) b waits.waits.items waits.depth t (body_of body))
-    → IfOk r (λ body. body_of body ≡ want) → Ends r before b waits left
-ends {r = Ok x} {before = before} {b = b} {waits = waits} t want l made is = record {
-  ended = subst (λ y. Ended (known before.names) (state before) b waits.waits.items waits.depth y (body_of x)) (sym l)
-      (made x is);
-}
-ends {r = Err x} t want l made is = record { ended = tt }
-
--- by what another function ensures
-pub ends_as : {r : Result FlatBody OutOfMemory} {before : Converter} {b : State} {waits : Waits} {left : CoerTerm}
-    (t : RowTerm) → row_term_of left ≡ t
-    → OnOk r (Adds (known before.names) (state before) b (free_names t) (procs_of t) (made t))
-    → IfOk r (λ body. (outer : Scope) → Reaches b.captured outer
-    → body_of body ≡ ahead waits.waits.items (code t (seen before outer) waits.depth (length before.procs)))
-    → Ends r before b waits left
-ends_as {r = Ok x} {before = before} {b = b} {waits = waits} t l adds at = record {
-  ended = subst (λ y. Ended (known before.names) (state before) b waits.waits.items waits.depth y (body_of x)) (sym l)
-      (record { adds = adds; at = at });
-}
-ends_as {r = Err x} t l adds at = record { ended = tt }
-
--- what it adds, and the body that it gives
-pub ends_adds : {r : Result FlatBody OutOfMemory} {before : Converter} {b : State} {waits : Waits} {left : CoerTerm}
-    {W : State → Type 0} → Ends r before b waits left
-    → ((end : State) → Adds (known before.names) (state before) end (free_names (row_term_of left))
-    (procs_of (row_term_of left)) (made (row_term_of left)) → W end) → OnOk r (W b)
-ends_adds {r = Ok x} {b = b} h whole = whole b h.ended.adds
-ends_adds {r = Err x} h whole = tt
-
-pub ends_body : {r : Result FlatBody OutOfMemory} {before : Converter} {b : State} {waits : Waits} {left : CoerTerm}
-    {W : Scope → Body} → Ends r before b waits left
-    → ((outer : Scope) → Reaches before.names.captured outer
-    → ahead waits.waits.items (code (row_term_of left) (seen before outer) waits.depth (length before.procs)) ≡ W outer)
-    → IfOk r (λ body. (outer : Scope) → Reaches b.captured outer → body_of body ≡ W outer)
-ends_body {r = Ok x} {before = before} {b = b} {left = left} h whole = λ outer r.
-    h.ended.at outer r ∙ whole outer (grows (known before.names) (state before) b (free_names (row_term_of left))
-    (procs_of (row_term_of left)) (made (row_term_of left)) h.ended.adds outer r)
-ends_body {r = Err x} h whole = tt
+-- by the form, and by what it came to
+pub ends : {before after now : Converter} {waits later those : Waits} {term : CoerTerm} {last it : FlatBody}
+    (t : RowTerm) → row_term_of term ≡ t → now ≡ after → those ≡ later → last ≡ it → Opened before.names after.names
+    → Ended (known before.names) (state before) (state after) waits.waits.items waits.depth t
+    (ahead later.waits.items (body_of it)) → Ends before now waits those term last
+ends t l e f g opened ended = rw (e, f, g) (record { opened = opened; ended = rw l ended })

@@ -24,18 +24,14 @@ use Rattle.flat_ir.specs.Machine.{set_group, value, values}
 use Rattle.closure_convert.specs.Conversion.{captures, alone, Scope, nothing_known, bind_operands, numbered}
 use Rattle.closure_convert.specs.Conversion.{captured_scope, group_scope, fun_scope, operand_or_unit, meanings_of, made}
 use Rattle.closure_convert.specs.Conversion.{made_in, made_by, own_procs}
+use Rattle.core_calc.proofs.Public.{none_is_not_some}
+pub use Rattle.core_calc.proofs.Public.{same_some}
 use Rattle.closure_convert.proofs.ProcPlaces.{HasAt}
 
 -- ---- choices
 
 pub none_some : {A B : Type 0} {a : A} → None ≡ Some a → B
-none_some {a = a} e = absurd (clash e)
-  where
-    clash : None ≡ Some a → ⊥
-    clash h = cc
-
-pub same_some : {A : Type 0} (a b : A) → Some a ≡ Some b → a ≡ b
-same_some a b e = cc
+none_some {a = a} e = absurd (none_is_not_some a e)
 
 pub false_true : {B : Type 0} → false ≡ true → B
 false_true e = absurd (clash e)
@@ -100,11 +96,7 @@ ScopeBelow depth scope = EachMeaning (Below depth) scope
 
 pub below_more : (depth more : ℕ) (o : Operand) → depth ≤ more → Below depth o → Below more o
 below_more depth more (Local i) le h = omega arith
-below_more depth more (Captured i) le h = tt
-below_more depth more (Sibling i) le h = tt
-below_more depth more (IntConst n) le h = tt
-below_more depth more (BoolConst b) le h = tt
-below_more depth more UnitConst le h = tt
+below_more depth more _ le h = tt
 
 pub all_below_more : (depth more : ℕ) (os : List Operand) → depth ≤ more → AllBelow depth os → AllBelow more os
 all_below_more depth more [] le h = tt
@@ -515,11 +507,7 @@ module _ {C : Type 0} where
   pub value_same : (depth : ℕ) (l k : Locals C) (own : Group C) (o : Operand) → SameBelow depth l k → Below depth o
       → value k own o ≡ value l own o
   value_same depth l k own (Local i) s h = s i h
-  value_same depth l k own (Captured i) s h = refl
-  value_same depth l k own (Sibling i) s h = refl
-  value_same depth l k own (IntConst n) s h = refl
-  value_same depth l k own (BoolConst b) s h = refl
-  value_same depth l k own UnitConst s h = refl
+  value_same depth l k own _ s h = refl
 
   pub values_same : (depth : ℕ) (l k : Locals C) (own : Group C) (os : List Operand) → SameBelow depth l k
       → AllBelow depth os → values k own os ≡ values l own os

@@ -1,5 +1,5 @@
 -- The forms that end a body, and those behind which it goes on.
-use Rattle.std.proofs.Common.{◌≡◌, ℕ, ◌+◌, ℤ, List, [], ◌∷◌, ◌++◌, length, refl, sym, ap, ◌∙◌}
+use Rattle.std.proofs.Common.{◌≡◌, ℕ, ◌+◌, ℤ, List, [], ◌∷◌, ◌++◌, length, Some, refl, sym, ap, ◌∙◌}
 use Rattle.std.proofs.Common.{subst, arith, append_assoc}
 use Rattle.grift_base.specs.declared.operators.PrimOp.{PrimOp}
 use Rattle.flat_ir.specs.declared.code.Operand.{Operand}
@@ -7,7 +7,7 @@ use Rattle.flat_ir.specs.declared.code.Operand.TheVariants.{Local}
 use Rattle.flat_ir.specs.declared.code.Operation.TheVariants.{Move, Prim, Cast, Tuple, Proj, ProjDyn}
 use Rattle.flat_ir.specs.Bodies.{Body, Call, Choose, Give, LetGroup, Proc}
 use Rattle.coer_core.specs.Terms.{RowTerm, RowTerms, RowMembers, RowBindings, RowCall, RowCast, RowGroup, RowIf}
-use Rattle.coer_core.specs.Terms.{RowLambda}
+use Rattle.coer_core.specs.Terms.{RowLambda, RowVar}
 use Rattle.coer_core.specs.Terms.{RowLet, RowPrim, RowProj, RowProjDyn, RowTuple}
 use Rattle.coer_core.specs.Counts.{free_names, free_names_of_all, free_names_of_bindings, free_names_of_members}
 use Rattle.coer_core.specs.Counts.{names_besides, row_binding_names, row_member_count, row_member_names}
@@ -20,41 +20,34 @@ use Rattle.closure_convert.specs.declared.conversion.Converter.{Converter}
 use Rattle.closure_convert.specs.declared.waits.Wait.{Wait}
 use Rattle.closure_convert.specs.declared.waits.Waits.{Waits}
 use Rattle.closure_convert.specs.Conversion.{Scope, alone, call_of, captures, code, gather, label_id, made, made_by}
-use Rattle.closure_convert.specs.Conversion.{made_for}
+use Rattle.closure_convert.specs.Conversion.{made_for, operand_or_unit}
 use Rattle.closure_convert.specs.Conversion.{made_in, meanings_of, own_procs, procs_by, procs_for, procs_in, procs_of}
 use Rattle.closure_convert.specs.Converting.{State, Adds, Hides, group_procs, seen, state}
-use Rattle.closure_convert.specs.Scopes.{Reaches, known, over}
+use Rattle.closure_convert.specs.Scopes.{Reaches, known, over, with_free}
 use Rattle.closure_convert.specs.Waits.{Puts, ahead}
-use Rattle.closure_convert.proofs.Adding.{adds_outside, adds_same, adds_then, grows}
+use Rattle.closure_convert.proofs.Adding.{adds_name, adds_nothing, adds_outside, adds_same, adds_then, grows}
 use Rattle.closure_convert.proofs.Meeting.{besides_append}
 use Rattle.closure_convert.proofs.Placing.{Placed}
 
 -- operands for terms, between these states, waits and local names
-pub record Gathered (s : Scope) (a b : State) (v w : List Wait) (d : ℕ) (terms : RowTerms) (before after : List Operand)
+pub record Gathered (s : Scope) (a b : State) (v w : List Wait) (d : ℕ) (terms : RowTerms) (os : List Operand)
     : Type 0 where
   pub adds : Adds s a b (free_names_of_all terms) (procs_for terms) (made_for terms)
   pub at : (outer : Scope) → Reaches b.captured outer → (front : List Operand) (finish : List Operand → Body)
-      → ahead w (finish (front ++ after))
-      ≡ ahead v (gather terms (over s outer) d (length a.procs) (front ++ before) finish)
-
-pub gathered_in : {s z : Scope} {a b : State} {v w : List Wait} {d : ℕ} {terms : RowTerms} {before after : List Operand}
-    → s ≡ z → Gathered s a b v w d terms before after → Gathered z a b v w d terms before after
-gathered_in {a = a} {b = b} {v = v} {w = w} {d = d} {terms = terms} {before = before} {after = after} same p = subst
-    (λ x. Gathered x a b v w d terms before after) same p
+      → ahead w (finish (front ++ os)) ≡ ahead v (gather terms (over s outer) d (length a.procs) front finish)
 
 -- what gathering the operands for terms ensures, where this is known
-pub gathered_by : {s : Scope} (before after : Converter) (v w : Waits) (terms : CoerList) (old os : List Operand)
-    → known before.names ≡ s → old ≡ []
+pub gathered_by : {s : Scope} (before after : Converter) (v w : Waits) (terms : CoerList) (os : List Operand)
+    → known before.names ≡ s
     → Adds (known before.names) (state before) (state after) (free_names_of_all (row_terms_of terms))
     (procs_for (row_terms_of terms)) (made_for (row_terms_of terms))
     → ((outer : Scope) → Reaches after.names.captured outer → (front : List Operand) (finish : List Operand → Body)
     → ahead w.waits.items (finish (front ++ os))
-    ≡ ahead v.waits.items (gather (row_terms_of terms) (seen before outer) v.depth (length before.procs)
-    (front ++ old) finish))
-    → Gathered s (state before) (state after) v.waits.items w.waits.items v.depth (row_terms_of terms) [] os
-gathered_by before after v w terms old os same none adds at =
-    gathered_in same (subst (λ x. Gathered (known before.names) (state before) (state after) v.waits.items
-    w.waits.items v.depth (row_terms_of terms) x os) none (record { adds = adds; at = at }))
+    ≡ ahead v.waits.items (gather (row_terms_of terms) (seen before outer) v.depth (length before.procs) front finish))
+    → Gathered s (state before) (state after) v.waits.items w.waits.items v.depth (row_terms_of terms) os
+gathered_by before after v w terms os same adds at =
+    subst (λ x. Gathered x (state before) (state after) v.waits.items w.waits.items v.depth (row_terms_of terms) os)
+    same (record { adds = adds; at = at })
 
 -- the body for a term, between these states
 pub record Coded (s : Scope) (a b : State) (d : ℕ) (t : RowTerm) (body : Body) : Type 0 where
@@ -84,9 +77,28 @@ pub record Ended (s : Scope) (a b : State) (v : List Wait) (d : ℕ) (t : RowTer
 
 -- ---- forms that end a body
 
+pub constant_ends : {s : Scope} {a : State} {v : List Wait} {d : ℕ} (t : RowTerm) (o : Operand) {last : Body}
+    → free_names t ≡ [] → ((n : ℕ) → procs_of t n ≡ []) → made t ≡ 0
+    → ((scope : Scope) (n : ℕ) → code t scope d n ≡ Give (Move o)) → last ≡ Give (Move o)
+    → Ended s a a v d t (ahead v last)
+constant_ends {s = s} {a = a} {v = v} t o names procs many is e = record {
+  adds = adds_same s a a [] (free_names t) (λ n. []) (procs_of t) 0 (made t) (sym names) (λ n. sym (procs n)) (sym many)
+      (adds_nothing s a);
+  at = λ outer r. ap (ahead v) (e ∙ sym (is (over s outer) (length a.procs)));
+}
+
+pub name_ends : {s : Scope} {a b : State} {v : List Wait} {d : ℕ} (name : ℕ) (o : Operand) {last : Body}
+    → b.captured ≡ with_free s a.captured name → b.procs ≡ a.procs
+    → ((outer : Scope) → Reaches b.captured outer → over s outer name ≡ Some o) → last ≡ Give (Move o)
+    → Ended s a b v d (RowVar name) (ahead v last)
+name_ends {s = s} {a = a} {b = b} {v = v} name o captured procs means e = record {
+  adds = adds_name s a b name captured procs;
+  at = λ outer r. ap (ahead v) (e ∙ sym (ap (λ x. Give (Move (operand_or_unit x))) (means outer r)));
+}
+
 pub call_ends : {s : Scope} {a b c : State} {u v w : List Wait} {d e : ℕ} {f : RowTerm} {terms : RowTerms} {o : Operand}
     {os : List Operand} {body : Body}
-    → Placed s a b u v d e f o → Gathered s b c v w e terms [] os
+    → Placed s a b u v d e f o → Gathered s b c v w e terms os
     → body ≡ ahead w (Call o os) → Ended s a c u d (RowCall f terms) body
 call_ends {s = s} {a = a} {b = b} {c = c} {v = v} {e = e} {f = f} {terms = terms} {o = o} p g end = record {
   adds = adds_then s a b c (free_names f) (free_names_of_all terms) (procs_of f) (procs_for terms) (made f)
@@ -157,7 +169,7 @@ proj_dyn_ends {k = k} {label = label} p end = record {
 
 pub tuple_ends : {s : Scope} {a b : State} {u v : List Wait} {d : ℕ} {parts : RowTerms} {os : List Operand}
     {body : Body}
-    → Gathered s a b u v d parts [] os → body ≡ ahead v (Give (Tuple os)) → Ended s a b u d (RowTuple parts) body
+    → Gathered s a b u v d parts os → body ≡ ahead v (Give (Tuple os)) → Ended s a b u d (RowTuple parts) body
 tuple_ends g end = record {
   adds = g.adds;
   at = λ outer r. end ∙ g.at outer r [] (λ xs. Give (Tuple xs));
@@ -165,7 +177,7 @@ tuple_ends g end = record {
 
 pub prim_ends : {s : Scope} {a b : State} {u v : List Wait} {d : ℕ} {operator : PrimOp} {terms : RowTerms}
     {os : List Operand} {body : Body}
-    → Gathered s a b u v d terms [] os → body ≡ ahead v (Give (Prim operator os))
+    → Gathered s a b u v d terms os → body ≡ ahead v (Give (Prim operator os))
     → Ended s a b u d (RowPrim operator terms) body
 prim_ends {operator = operator} g end = record {
   adds = g.adds;
@@ -186,14 +198,14 @@ lambda_ends w {d = d} x p end = record {
 
 -- ---- forms behind which a body goes on
 
-pub group_goes_on : {s inside : Scope} {a b : State} {left body : RowTerm} {members : RowMembers} {W : State → Type 0}
-    → left ≡ RowGroup members body → Hides (row_member_names members) inside s
+pub group_goes_on : {s inside : Scope} {a b end : State} (members : RowMembers) (body : RowTerm)
+    → Hides (row_member_names members) inside s
     → Adds s a b (names_besides (row_member_names members) (free_names_of_members members)) (group_procs members)
     (made_in members + row_member_count members)
-    → ((end : State) → Adds s a end (free_names left) (procs_of left) (made left) → W end)
-    → (end : State) → Adds inside b end (free_names body) (procs_of body) (made body) → W end
-group_goes_on {s = s} {inside = inside} {a = a} {b = b} {body = body} {members = members} l hide x whole end y =
-    whole end (subst (λ z. Adds s a end (free_names z) (procs_of z) (made z)) (sym l) all)
+    → Adds inside b end (free_names body) (procs_of body) (made body)
+    → Adds s a end (free_names (RowGroup members body)) (procs_of (RowGroup members body))
+    (made (RowGroup members body))
+group_goes_on {s = s} {inside = inside} {a = a} {b = b} {end = end} members body hide x y = all
   where
     names : List ℕ
     names = row_member_names members
@@ -232,25 +244,24 @@ group_goes_on {s = s} {inside = inside} {a = a} {b = b} {body = body} {members =
         (captures (row_member_names members) members) (row_member_count members) 0 members n ++ procs_of body k))
         (number n)) refl joined
 
-pub let_goes_on : {s inside : Scope} {a b : State} {left body : RowTerm} {bindings : RowBindings} {W : State → Type 0}
-    → left ≡ RowLet bindings body → Hides (row_binding_names bindings) inside s
+pub let_goes_on : {s inside : Scope} {a b end : State} (bindings : RowBindings) (body : RowTerm)
+    → Hides (row_binding_names bindings) inside s
     → Adds s a b (free_names_of_bindings bindings) (procs_by bindings) (made_by bindings)
-    → ((end : State) → Adds s a end (free_names left) (procs_of left) (made left) → W end)
-    → (end : State) → Adds inside b end (free_names body) (procs_of body) (made body) → W end
-let_goes_on {s = s} {inside = inside} {a = a} {b = b} {body = body} {bindings = bindings} l hide x whole end y =
-    whole end (subst (λ z. Adds s a end (free_names z) (procs_of z) (made z)) (sym l)
-    (adds_then s a b end (free_names_of_bindings bindings) (names_besides (row_binding_names bindings)
-    (free_names body))
+    → Adds inside b end (free_names body) (procs_of body) (made body)
+    → Adds s a end (free_names (RowLet bindings body)) (procs_of (RowLet bindings body)) (made (RowLet bindings body))
+let_goes_on {s = s} {inside = inside} {a = a} {b = b} {end = end} bindings body hide x y =
+    adds_then s a b end (free_names_of_bindings bindings) (names_besides (row_binding_names bindings) (free_names body))
     (procs_by bindings) (procs_of body) (made_by bindings) (made body) x
-    (adds_outside (row_binding_names bindings) inside s b end (free_names body) (procs_of body) (made body) hide y)))
+    (adds_outside (row_binding_names bindings) inside s b end (free_names body) (procs_of body) (made body) hide y)
 
-pub body_goes_on : {s : Scope} (inside : Scope) {a b : State} (v w : List Wait) (d e : ℕ) {left whole_term : RowTerm}
-    (body : RowTerm) {names : List ℕ} {ps : ℕ → List Proc} {m : ℕ} {W : Scope → Body}
-    → left ≡ whole_term → Adds s a b names ps m
+pub body_goes_on : {s inside : Scope} {a b c : State} {v w : List Wait} {d e : ℕ} (whole body : RowTerm) {last : Body}
+    → (Adds inside b c (free_names body) (procs_of body) (made body)
+    → Adds s a c (free_names whole) (procs_of whole) (made whole))
     → ((outer : Scope) → Reaches b.captured outer → ahead w (code body (over inside outer) e (length b.procs))
-    ≡ ahead v (code whole_term (over s outer) d (length a.procs)))
-    → ((outer : Scope) → Reaches a.captured outer → ahead v (code left (over s outer) d (length a.procs)) ≡ W outer)
-    → (outer : Scope) → Reaches b.captured outer → ahead w (code body (over inside outer) e (length b.procs)) ≡ W outer
-body_goes_on {s = s} inside {a = a} {b = b} v w d e body {names = names} {ps = ps} {m = m} l x p whole outer r =
-    p outer r ∙ sym (ap (λ z. ahead v (code z (over s outer) d (length a.procs))) l)
-    ∙ whole outer (grows s a b names ps m x outer r)
+    ≡ ahead v (code whole (over s outer) d (length a.procs)))
+    → Ended inside b c w e body last → Ended s a c v d whole last
+body_goes_on {inside = inside} {b = b} {c = c} whole body adds at y = record {
+  adds = adds y.adds;
+  at = λ outer r. y.at outer r
+      ∙ at outer (grows inside b c (free_names body) (procs_of body) (made body) y.adds outer r);
+}

@@ -24,53 +24,40 @@ use Rattle.flat_ir.specs.Levels.{levels, HaveLevels}
 
 -- ---- the nodes and binders of a term whose casts are numbers
 
+-- those below its own node
 abbrev mutual
-  pub size : RowTerm → ℕ
-  size (RowInt n) = 1
-  size (RowBool b) = 1
-  size RowUnit = 1
-  size (RowVar name) = 1
-  size (RowLambda parameters body type) = suc (length parameters + size body)
-  size (RowGroup members body) = suc (size_of_members members + size body)
-  size (RowLet bindings body) = suc (size_of_bindings bindings + size body)
-  size (RowCall function arguments) = suc (size function + size_of_all arguments)
-  size (RowIf condition on_true on_false) = suc (size condition + size on_true + size on_false)
-  size (RowSeq terms) = suc (size_of_all terms)
-  size (RowCast term number) = suc (size term)
-  size (RowProj term k) = suc (size term)
-  size (RowProjDyn term k label) = suc (size term)
-  size (RowTuple parts) = suc (size_of_all parts)
-  size (RowPrim operator operands) = suc (size_of_all operands)
+  below : RowTerm → ℕ
+  below (RowInt n) = 0
+  below (RowBool b) = 0
+  below RowUnit = 0
+  below (RowVar name) = 0
+  below (RowLambda parameters body type) = length parameters + suc (below body)
+  below (RowGroup members body) = size_of_members members + suc (below body)
+  below (RowLet bindings body) = size_of_bindings bindings + suc (below body)
+  below (RowCall function arguments) = suc (below function) + size_of_all arguments
+  below (RowIf condition on_true on_false) = suc (below condition) + suc (below on_true) + suc (below on_false)
+  below (RowSeq terms) = size_of_all terms
+  below (RowCast term number) = suc (below term)
+  below (RowProj term k) = suc (below term)
+  below (RowProjDyn term k label) = suc (below term)
+  below (RowTuple parts) = size_of_all parts
+  below (RowPrim operator operands) = size_of_all operands
 
-  pub size_of_all : RowTerms → ℕ
+  size_of_all : RowTerms → ℕ
   size_of_all NoRowTerms = 0
-  size_of_all (RowTermThen term rest) = size term + size_of_all rest
+  size_of_all (RowTermThen term rest) = suc (below term) + size_of_all rest
 
-  pub size_of_members : RowMembers → ℕ
+  size_of_members : RowMembers → ℕ
   size_of_members NoRowMembers = 0
   size_of_members (RowMemberThen name parameters body type rest) =
-      suc (length parameters + size body) + size_of_members rest
+      suc (length parameters + suc (below body)) + size_of_members rest
 
-  pub size_of_bindings : RowBindings → ℕ
+  size_of_bindings : RowBindings → ℕ
   size_of_bindings NoRowBindings = 0
-  size_of_bindings (RowBindingThen name bound rest) = suc (size bound) + size_of_bindings rest
+  size_of_bindings (RowBindingThen name bound rest) = suc (suc (below bound)) + size_of_bindings rest
 
-some : (term : RowTerm) → 1 ≤ size term
-some (RowInt n) = omega arith
-some (RowBool b) = omega arith
-some RowUnit = omega arith
-some (RowVar name) = omega arith
-some (RowLambda parameters body type) = omega arith
-some (RowGroup members body) = omega arith
-some (RowLet bindings body) = omega arith
-some (RowCall function arguments) = omega arith
-some (RowIf condition on_true on_false) = omega arith
-some (RowSeq terms) = omega arith
-some (RowCast term number) = omega arith
-some (RowProj term k) = omega arith
-some (RowProjDyn term k label) = omega arith
-some (RowTuple parts) = omega arith
-some (RowPrim operator operands) = omega arith
+abbrev size : RowTerm → ℕ
+size term = suc (below term)
 
 members_few : (members : RowMembers) → length (row_member_names members) ≤ size_of_members members
 members_few NoRowMembers = omega arith
@@ -176,8 +163,7 @@ mutual
   code_levels (RowBool b) scope depth next limit le = omega (arith, le)
   code_levels RowUnit scope depth next limit le = omega (arith, le)
   code_levels (RowVar name) scope depth next limit le = omega (arith, le)
-  code_levels (RowLambda parameters body type) scope depth next limit le =
-      let nodes = some body in omega (arith, le, nodes)
+  code_levels (RowLambda parameters body type) scope depth next limit le = omega (arith, le)
   code_levels (RowGroup NoRowMembers body) scope depth next limit le =
       code_levels body scope depth (next + 0 + 0) limit (omega (arith, le))
   code_levels (RowGroup (RowMemberThen name parameters inner type rest) body) scope depth next limit le =
@@ -188,32 +174,27 @@ mutual
       let_levels bindings scope depth next limit (size body) [] _ (omega (arith, le)) (λ os later h.
       code_levels body _ later (next + made_by bindings) limit h)
   code_levels (RowCall function arguments) scope depth next limit le =
-      let nodes = some function in
       placed_levels (atom function scope) depth limit (code function scope depth next) _
       (code_levels function scope depth next limit (omega (arith, le)))
       (λ o later h. gather_levels arguments scope later (next + made function) limit (o ∷ []) _
-      (omega (arith, le, nodes, h)) (λ os d g. call_levels os d limit g))
+      (omega (arith, le, h)) (λ os d g. call_levels os d limit g))
   code_levels (RowIf condition on_true on_false) scope depth next limit le =
-      let nodes = some condition in
       placed_levels (atom condition scope) depth limit (code condition scope depth next) _
       (code_levels condition scope depth next limit (omega (arith, le)))
       (λ o later h. max-le
-      (code_levels on_true scope later (next + made condition) limit (omega (arith, le, nodes, h)))
-      (code_levels on_false scope later (next + made condition + made on_true) limit (omega (arith, le, nodes, h))))
+      (code_levels on_true scope later (next + made condition) limit (omega (arith, le, h)))
+      (code_levels on_false scope later (next + made condition + made on_true) limit (omega (arith, le, h))))
   code_levels (RowSeq terms) scope depth next limit le =
       sequence_levels terms scope depth next limit (omega (arith, le))
   code_levels (RowCast term number) scope depth next limit le =
-      let nodes = some term in
       placed_levels (atom term scope) depth limit (code term scope depth next) _
-      (code_levels term scope depth next limit (omega (arith, le))) (λ o later h. omega (arith, le, nodes, h))
+      (code_levels term scope depth next limit (omega (arith, le))) (λ o later h. omega (arith, le, h))
   code_levels (RowProj term k) scope depth next limit le =
-      let nodes = some term in
       placed_levels (atom term scope) depth limit (code term scope depth next) _
-      (code_levels term scope depth next limit (omega (arith, le))) (λ o later h. omega (arith, le, nodes, h))
+      (code_levels term scope depth next limit (omega (arith, le))) (λ o later h. omega (arith, le, h))
   code_levels (RowProjDyn term k label) scope depth next limit le =
-      let nodes = some term in
       placed_levels (atom term scope) depth limit (code term scope depth next) _
-      (code_levels term scope depth next limit (omega (arith, le))) (λ o later h. omega (arith, le, nodes, h))
+      (code_levels term scope depth next limit (omega (arith, le))) (λ o later h. omega (arith, le, h))
   code_levels (RowTuple parts) scope depth next limit le =
       gather_levels parts scope depth next limit [] _ (omega (arith, le)) (λ os d g. g)
   code_levels (RowPrim operator operands) scope depth next limit le =
@@ -225,11 +206,10 @@ mutual
       → levels depth (gather terms scope depth next before finish) ≤ limit
   gather_levels NoRowTerms scope depth next limit before finish le go = go before depth (omega (arith, le))
   gather_levels (RowTermThen term rest) scope depth next limit before finish le go =
-      let nodes = some term in
       placed_levels (atom term scope) depth limit (code term scope depth next) _
       (code_levels term scope depth next limit (omega (arith, le)))
       (λ o later h. gather_levels rest scope later (next + made term) limit (before ++ o ∷ []) finish
-      (omega (arith, le, nodes, h)) go)
+      (omega (arith, le, h)) go)
 
   -- with so many levels more for what follows
   let_levels : (bindings : RowBindings) (scope : Scope) (depth next limit more : ℕ) (before : List Operand)
@@ -249,11 +229,10 @@ mutual
   sequence_levels (RowTermThen term NoRowTerms) scope depth next limit le =
       code_levels term scope depth next limit (omega (arith, le))
   sequence_levels (RowTermThen term (RowTermThen second rest)) scope depth next limit le =
-      let nodes = some term in
       placed_levels (atom term scope) depth limit (code term scope depth next) _
       (code_levels term scope depth next limit (omega (arith, le)))
       (λ o later h. sequence_levels (RowTermThen second rest) scope later (next + made term) limit
-      (omega (arith, le, nodes, h)))
+      (omega (arith, le, h)))
 
 -- ---- levels of procedures
 

@@ -9,7 +9,7 @@ use Rattle.coer_core.specs.Terms.{RowLambda, RowGroup, RowLet, RowCall, RowIf, R
 use Rattle.coer_core.specs.Terms.{RowTuple, RowPrim, NoRowTerms, RowTermThen, NoRowMembers, RowMemberThen}
 use Rattle.coer_core.specs.Terms.{NoRowBindings, RowBindingThen}
 use Rattle.flat_ir.specs.Closed.{part_has_words}
-use Rattle.closure_convert.specs.Uses.{how_many}
+use Rattle.coer_core.specs.Uses.{how_many}
 
 abbrev pub count : RowTerms → ℕ
 count = how_many

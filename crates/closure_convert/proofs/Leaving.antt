@@ -13,7 +13,8 @@ use Rattle.closure_convert.specs.Conversion.{procs_of}
 use Rattle.closure_convert.specs.Converting.{State, Adds, Hides, group_procs}
 use Rattle.closure_convert.specs.Numbers.{counted}
 use Rattle.closure_convert.specs.Scopes.{with_all_free}
-use Rattle.closure_convert.proofs.Adding.{adds_nothing, adds_then}
+use Rattle.flat_ir.specs.Bodies.{Proc}
+use Rattle.closure_convert.proofs.Adding.{adds_nothing, adds_same, adds_then}
 use Rattle.closure_convert.proofs.Meeting.{besides_none}
 use Rattle.closure_convert.proofs.Scoping.{counted_numbered}
 use Rattle.closure_convert.proofs.Taking.{names_long}
@@ -50,6 +51,15 @@ operands_are make names slice os count first scope new e o k n =
     n ∙ ap (λ x. bind_operands (names_of x) os scope) e
     ∙ ap (λ x. bind_operands (names_of names) x scope) (o
     ∙ ap (λ c. counted make c first) (k ∙ sym (names_long names)) ∙ counted_numbered make (names_of names) first)
+
+-- where nothing is left of a list, all is added
+pub all_added : {T : Type 0} (free : T → List ℕ) (procs : T → ℕ → List Proc) (many : T → ℕ) {s : Scope} {a : State}
+    {left none : T} {W : State → Type 0} → left ≡ none → free none ≡ [] → ((n : ℕ) → procs none n ≡ [])
+    → many none ≡ 0 → ((end : State) → Adds s a end (free left) (procs left) (many left) → W end) → W a
+all_added free procs many {s = s} {a = a} {none = none} e f p m whole =
+    whole a (subst (λ x. Adds s a a (free x) (procs x) (many x)) (sym e)
+    (adds_same s a a [] (free none) (λ n. []) (procs none) 0 (many none) (sym f) (λ n. sym (p n)) (sym m)
+    (adds_nothing s a)))
 
 -- the last of several terms adds what it adds alone
 pub last_adds : (s : Scope) (a b : State) (t : RowTerm) (left rest : RowTerms) → left ≡ RowTermThen t rest

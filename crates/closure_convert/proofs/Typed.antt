@@ -28,7 +28,8 @@ use Rattle.coer_core.specs.Terms.{core_bindings}
 use Rattle.coer_core.specs.Counts.{names_besides, free_names, free_names_of_all, free_names_of_members}
 use Rattle.coer_core.specs.Counts.{free_names_of_bindings, row_member_names, row_binding_names}
 use Rattle.closure_convert.proofs.Carrying.{none_some, same_some, false_true}
-use Rattle.closure_convert.specs.Uses.{Use, OperatorUse, DynPartUse, CastUse, has_words, how_many, term_uses}
+use Rattle.coer_core.specs.Uses.{how_many}
+use Rattle.closure_convert.specs.Uses.{Use, OperatorUse, DynPartUse, CastUse, has_words, term_uses}
 use Rattle.closure_convert.specs.Uses.{terms_uses, member_uses, binding_uses}
 use Rattle.closure_convert.proofs.Fine.{count, Fine, FineFor, FineIn, FineBy}
 use Rattle.closure_convert.proofs.Standing.{IsClosedTerm}

@@ -4,13 +4,14 @@ use Rattle.flat_ir.specs.declared.programs.FlatProc.{FlatProc}
 use Rattle.flat_ir.specs.declared.code.Operand.TheVariants.{Local}
 use Rattle.flat_ir.specs.Bodies.{Body, Proc}
 use Rattle.flat_ir.specs.Views.{body_of, procs_of as procs_in_memory}
-use Rattle.coer_core.specs.Counts.{names_besides, row_member_count, row_member_names}
-use Rattle.coer_core.specs.Terms.{RowMembers, NoRowMembers, RowMemberThen}
+use Rattle.coer_core.specs.Counts.{free_names, free_names_of_all, free_names_of_bindings, names_besides}
+use Rattle.coer_core.specs.Counts.{row_member_count, row_member_names}
+use Rattle.coer_core.specs.Terms.{RowBindings, RowMembers, RowTerm, RowTerms, NoRowMembers, RowMemberThen}
 use Rattle.closure_convert.specs.declared.conversion.Converter.{Converter}
 use Rattle.closure_convert.specs.declared.conversion.Function.{Function}
 use Rattle.closure_convert.specs.declared.names.Names.{Names}
 use Rattle.closure_convert.specs.Conversion.{Scope, bind_operands, captures, code, made, numbered}
-use Rattle.closure_convert.specs.Conversion.{own_procs, procs_in}
+use Rattle.closure_convert.specs.Conversion.{made_by, made_for, own_procs, procs_by, procs_for, procs_in, procs_of}
 use Rattle.closure_convert.specs.Scopes.{known, over, with_all_free}
 
 -- what grows while a function is converted: its captured names, and the procedures
@@ -34,6 +35,21 @@ pub record Adds (scope : Scope) (old new : State) (names : List ℕ) (from : ℕ
   pub captured : new.captured ≡ with_all_free scope old.captured names
   pub procs : procs_in_memory new.procs ≡ procs_in_memory old.procs ++ from (length old.procs)
   pub count : length new.procs ≡ length old.procs + many
+
+-- what a term adds: its names that were not known before, and its procedures
+abbrev pub AddsTerm : Converter → Converter → RowTerm → Type 0
+AddsTerm old new term = Adds (known old.names) (state old) (state new) (free_names term) (procs_of term) (made term)
+
+-- and so do terms in order
+abbrev pub AddsTerms : Converter → Converter → RowTerms → Type 0
+AddsTerms old new terms =
+    Adds (known old.names) (state old) (state new) (free_names_of_all terms) (procs_for terms) (made_for terms)
+
+-- and bindings
+abbrev pub AddsBindings : Converter → Converter → RowBindings → Type 0
+AddsBindings old new bindings =
+    Adds (known old.names) (state old) (state new) (free_names_of_bindings bindings) (procs_by bindings)
+    (made_by bindings)
 
 -- a function's count of parameters, and its body
 abbrev pub parts_of : List Function → List (ℕ × Body)

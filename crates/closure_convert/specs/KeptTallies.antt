@@ -1,5 +1,5 @@
 -- The account of a run of numbered procedures against that of the term's run.
-use Rattle.std.specs.Prelude.{ℕ, ◌+◌, ◌*◌, ◌≤◌}
+use Rattle.std.specs.Prelude.{◌+◌, ◌*◌, ◌≤◌}
 use Rattle.coer_core.specs.Tally.{Tally, reach}
 use Rattle.flat_ir.specs.FlatTally.{FlatTally, flat_reach}
 

@@ -1,6 +1,6 @@
 -- What the names of a function have become while it is converted. Names that are bound in it have operands; others are
 -- captured, and numbered as they are met.
-use Rattle.std.specs.Prelude.{◌≡◌, ℕ, nat_eq, Bool, true, cond, List, [], ◌∷◌, ◌++◌, Option, Some, None, is_some}
+use Rattle.std.specs.Prelude.{◌≡◌, ℕ, nat_eq, true, cond, List, [], ◌∷◌, ◌++◌, Option, Some, None, is_some}
 use Rattle.indexmap.specs.IndexMap.{get}
 use Rattle.core_calc.specs.Substitution.{is_among}
 use Rattle.flat_ir.specs.declared.code.Operand.{Operand}

@@ -1,20 +1,20 @@
 // Bodies and procedures of terms.
 
-ghost use Rattle.std.specs.Prelude.{◌≡◌, ◌+◌, ◌++◌, ◌∷◌, [], ℕ, List, IfOk, MatchOption, OnOk, length};
+ghost use Rattle.std.specs.Prelude.{◌≡◌, ◌+◌, ◌++◌, [], ℕ, List, IfOk, MatchOption, OnOk, length};
 ghost use Rattle.core_calc.specs.Views.{names_of};
-ghost use Rattle.coer_core.specs.Counts.{free_names, free_names_of_all, free_names_of_bindings};
+ghost use Rattle.coer_core.specs.Counts.{free_names};
 ghost use Rattle.coer_core.specs.Counts.{free_names_of_members, names_besides, row_binding_names, row_member_count};
 ghost use Rattle.coer_core.specs.Counts.{row_member_names};
 ghost use Rattle.coer_core.specs.Terms.{RowGroup, RowLambda, RowLet, RowTerm};
 ghost use Rattle.coer_core.specs.Views.{row_bindings_of, row_members_of, row_term_of, row_terms_of};
-ghost use Rattle.flat_ir.specs.Bodies.{Body, LetGroup};
+ghost use Rattle.flat_ir.specs.declared.code.Operation.TheVariants.{Move};
+ghost use Rattle.flat_ir.specs.Bodies.{Body, Give, LetGroup};
 ghost use Rattle.flat_ir.specs.Views.{body_of, procs_of as procs_in_memory};
 ghost use Rattle.closure_convert.specs.Conversion.{Scope, alone, atom, bind_operands, captures, code, converted};
-ghost use Rattle.closure_convert.specs.Conversion.{gather};
-ghost use Rattle.closure_convert.specs.Conversion.{gather_let, made, made_by, made_for, made_in, meanings_of, numbered};
-ghost use Rattle.closure_convert.specs.Conversion.{own_procs, placed, procs_by, procs_for, procs_in, procs_of};
-ghost use Rattle.closure_convert.specs.Conversion.{sequence};
-ghost use Rattle.closure_convert.specs.Converting.{Adds, Hides, as_procs, bodies, group_procs, parts_of, seen, state};
+ghost use Rattle.closure_convert.specs.Conversion.{gather, gather_let, made, made_in, meanings_of, numbered};
+ghost use Rattle.closure_convert.specs.Conversion.{placed, procs_in, procs_of, sequence};
+ghost use Rattle.closure_convert.specs.Converting.{Adds, AddsBindings, AddsTerm, AddsTerms, Hides, as_procs, bodies};
+ghost use Rattle.closure_convert.specs.Converting.{group_procs, parts_of, seen, state};
 ghost use Rattle.closure_convert.specs.Keeping.{Kept, Opened};
 ghost use Rattle.closure_convert.specs.Programs.{HasNoFreeNames};
 ghost use Rattle.closure_convert.specs.Scopes.{Reaches, known, with_all_free};
@@ -28,6 +28,7 @@ use core_calc::terms::{VarId, VarIds};
 use flat_ir::code::{FlatBody, Operand, Operands, Operation};
 use flat_ir::programs::{FlatProc, FlatProcs};
 use grift_base::lists::OutOfMemory;
+use grift_base::made::boxed_made;
 use std::alloc::Global;
 use std::mem;
 
@@ -75,8 +76,7 @@ impl Converter {
     fn atom(&mut self, term: &CoerTerm) -> Result<Option<Operand>, OutOfMemory>
         ensures kept { OnOk result (Kept self.old.names self.new.names) }
         ensures adds { IfOk result (λ r. MatchOption r (self.new ≡ self.old)
-            (λ _. Adds (known self.old.names) (state self.old) (state self.new)
-            (free_names (row_term_of term.now)) (procs_of (row_term_of term.now)) (made (row_term_of term.now)))) }
+            (λ _. AddsTerm self.old self.new (row_term_of term.now))) }
         ensures atom { IfOk result (λ r. (outer : Scope) → Reaches self.new.names.captured outer
             → atom (row_term_of term.now) (seen self.old outer) ≡ r) }
     {
@@ -103,9 +103,7 @@ impl Converter {
     #[cycle(conversion)]
     fn place(&mut self, waits: &mut Waits, term: &CoerTerm) -> Result<Operand, OutOfMemory>
         ensures kept { OnOk result (Kept self.old.names self.new.names) }
-        ensures adds { OnOk result (Adds (known self.old.names) (state self.old) (state self.new)
-            (free_names (row_term_of term.now)) (procs_of (row_term_of term.now))
-            (made (row_term_of term.now))) }
+        ensures adds { OnOk result (AddsTerm self.old self.new (row_term_of term.now)) }
         ensures placed { IfOk result (λ o. (outer : Scope) → Reaches self.new.names.captured outer
             → (rest : Operand → ℕ → Body)
             → ahead waits.new.waits.items (rest o waits.new.depth)
@@ -119,31 +117,24 @@ impl Converter {
         waits.bind(inner)
     }
 
-    // The operands for terms, behind those that are there.
+    // The operands for terms.
     #[cycle(conversion)]
-    fn gather(
-        &mut self,
-        waits: &mut Waits,
-        terms: &CoerList,
-        operands: &mut Operands,
-    ) -> Result<(), OutOfMemory>
+    fn gather(&mut self, waits: &mut Waits, terms: &CoerList) -> Result<Operands, OutOfMemory>
         ensures kept { OnOk result (Kept self.old.names self.new.names) }
-        ensures adds { OnOk result (Adds (known self.old.names) (state self.old) (state self.new)
-            (free_names_of_all (row_terms_of terms.now)) (procs_for (row_terms_of terms.now))
-            (made_for (row_terms_of terms.now))) }
-        ensures gathered { OnOk result ((outer : Scope) → Reaches self.new.names.captured outer
+        ensures adds { OnOk result (AddsTerms self.old self.new (row_terms_of terms.now)) }
+        ensures gathered { IfOk result (λ os. (outer : Scope) → Reaches self.new.names.captured outer
             → (front : List Operand) (finish : List Operand → Body)
-            → ahead waits.new.waits.items (finish (front ++ operands.new))
+            → ahead waits.new.waits.items (finish (front ++ os))
             ≡ ahead waits.old.waits.items (gather (row_terms_of terms.now) (seen self.old outer) waits.old.depth
-            (length self.old.procs)
-            (front ++ operands.old) finish)) }
+            (length self.old.procs) front finish)) }
     {
+        let mut operands = Operands::new(self.alloc);
         let mut left = terms;
         while let CoerList::Cons(first, rest) = left {
             operands.push(self.place(waits, first)?)?;
             left = rest;
         }
-        Ok(())
+        Ok(operands)
     }
 
     // The names of bindings, and the operands for their terms.
@@ -154,9 +145,7 @@ impl Converter {
         bindings: &CoerBindings,
     ) -> Result<(VarIds, Operands), OutOfMemory>
         ensures kept { OnOk result (Kept self.old.names self.new.names) }
-        ensures adds { OnOk result (Adds (known self.old.names) (state self.old) (state self.new)
-            (free_names_of_bindings (row_bindings_of bindings.now)) (procs_by (row_bindings_of bindings.now))
-            (made_by (row_bindings_of bindings.now))) }
+        ensures adds { OnOk result (AddsBindings self.old self.new (row_bindings_of bindings.now)) }
         ensures names { IfOk result (λ r. names_of r.0 ≡ row_binding_names (row_bindings_of bindings.now)) }
         ensures same { IfOk result (λ r. length r.0 ≡ length r.1) }
         ensures gathered { IfOk result (λ r. (outer : Scope) → Reaches self.new.names.captured outer
@@ -179,29 +168,27 @@ impl Converter {
 
     // Of terms one after another the last gives the value.
     #[cycle(conversion)]
-    fn sequence(&mut self, mut waits: Waits, terms: &CoerList) -> Result<FlatBody, OutOfMemory>
+    fn sequence(&mut self, waits: &mut Waits, terms: &CoerList) -> Result<FlatBody, OutOfMemory>
         ensures kept { OnOk result (Kept self.old.names self.new.names) }
-        ensures adds { OnOk result (Adds (known self.old.names) (state self.old) (state self.new)
-            (free_names_of_all (row_terms_of terms.now)) (procs_for (row_terms_of terms.now))
-            (made_for (row_terms_of terms.now))) }
+        ensures adds { OnOk result (AddsTerms self.old self.new (row_terms_of terms.now)) }
         ensures body { IfOk result (λ b. (outer : Scope) → Reaches self.new.names.captured outer
-            → body_of b ≡ ahead waits.waits.items
-            (sequence (row_terms_of terms.now) (seen self.old outer) waits.depth (length self.old.procs))) }
+            → ahead waits.new.waits.items (body_of b) ≡ ahead waits.old.waits.items
+            (sequence (row_terms_of terms.now) (seen self.old outer) waits.old.depth (length self.old.procs))) }
     {
         let mut left = terms;
         while let CoerList::Cons(first, rest) = left {
             match **rest {
                 CoerList::Nil => {
                     let body = self.code(first, waits.depth)?;
-                    return waits.before(body);
+                    return Ok(body);
                 }
                 CoerList::Cons(..) => {
-                    self.place(&mut waits, first)?;
+                    self.place(waits, first)?;
                     left = rest;
                 }
             }
         }
-        waits.give(Operation::Move(Operand::Unit))
+        Ok(moved(Operand::Unit))
     }
 
     // A function, whose body knows what is known and its parameters.
@@ -380,9 +367,7 @@ impl Converter {
         ensures opened { OnOk result (Opened self.old.names self.new.names) }
         ensures hides { OnOk result (Hides (row_binding_names (row_bindings_of bindings.now))
             (known self.new.names) (known self.old.names)) }
-        ensures adds { OnOk result (Adds (known self.old.names) (state self.old) (state self.new)
-            (free_names_of_bindings (row_bindings_of bindings.now)) (procs_by (row_bindings_of bindings.now))
-            (made_by (row_bindings_of bindings.now))) }
+        ensures adds { OnOk result (AddsBindings self.old self.new (row_bindings_of bindings.now)) }
         ensures body { OnOk result ((outer : Scope) → Reaches self.new.names.captured outer
             → (body : RowTerm)
             → ahead waits.new.waits.items (code body (seen self.new outer) waits.new.depth
@@ -398,90 +383,86 @@ impl Converter {
     #[cycle(conversion)]
     fn code(&mut self, term: &CoerTerm, depth: u32) -> Result<FlatBody, OutOfMemory>
         ensures kept { OnOk result (Kept self.old.names self.new.names) }
-        ensures adds { OnOk result (Adds (known self.old.names) (state self.old) (state self.new)
-            (free_names (row_term_of term.now)) (procs_of (row_term_of term.now))
-            (made (row_term_of term.now))) }
+        ensures adds { OnOk result (AddsTerm self.old self.new (row_term_of term.now)) }
         ensures body { IfOk result (λ b. (outer : Scope) → Reaches self.new.names.captured outer
             → body_of b ≡ code (row_term_of term.now) (seen self.old outer) depth (length self.old.procs)) }
     {
         let mark = self.names.mark();
-        let body = self.inside(term, depth)?;
+        let mut waits = Waits::new(self.alloc, depth);
+        let last = self.last(&mut waits, term)?;
         self.names.undo(mark)?;
-        Ok(body)
+        waits.ahead_of(last)
     }
 
-    // The same, and what is bound on the way stays bound.
+    // The last body for a term, behind what is bound in front of it. What is bound on the way stays bound.
     #[cycle(conversion)]
-    fn inside(&mut self, term: &CoerTerm, depth: u32) -> Result<FlatBody, OutOfMemory>
+    fn last(&mut self, waits: &mut Waits, term: &CoerTerm) -> Result<FlatBody, OutOfMemory>
         ensures opened { OnOk result (Opened self.old.names self.new.names) }
-        ensures adds { OnOk result (Adds (known self.old.names) (state self.old) (state self.new)
-            (free_names (row_term_of term.now)) (procs_of (row_term_of term.now))
-            (made (row_term_of term.now))) }
+        ensures adds { OnOk result (AddsTerm self.old self.new (row_term_of term.now)) }
         ensures body { IfOk result (λ b. (outer : Scope) → Reaches self.new.names.captured outer
-            → body_of b ≡ code (row_term_of term.now) (seen self.old outer) depth (length self.old.procs)) }
+            → ahead waits.new.waits.items (body_of b) ≡ ahead waits.old.waits.items
+            (code (row_term_of term.now) (seen self.old outer) waits.old.depth (length self.old.procs))) }
     {
-        let mut waits = Waits::new(self.alloc, depth);
-        let mut left = term;
-        loop {
-            match left {
-                CoerTerm::Int(n) => return waits.give(Operation::Move(Operand::Int(*n))),
-                CoerTerm::Bool(b) => return waits.give(Operation::Move(Operand::Bool(*b))),
-                CoerTerm::Unit => return waits.give(Operation::Move(Operand::Unit)),
-                CoerTerm::Var(name) => {
-                    let operand = self.names.operand(name.0)?;
-                    return waits.give(Operation::Move(operand));
-                }
-                CoerTerm::Lambda(params, body, _) => {
-                    let made = Operand::Local(waits.depth);
-                    self.lambda(&mut waits, params, body)?;
-                    return waits.give(Operation::Move(made));
-                }
-                CoerTerm::Group(members, body) => {
-                    self.group(&mut waits, members)?;
-                    left = body;
-                }
-                CoerTerm::Let(bindings, body) => {
-                    self.bindings(&mut waits, bindings)?;
-                    left = body;
-                }
-                CoerTerm::Call(function, arguments) => {
-                    let function = self.place(&mut waits, function)?;
-                    let mut operands = Operands::new(self.alloc);
-                    self.gather(&mut waits, arguments, &mut operands)?;
-                    return waits.before(FlatBody::Call(function, operands));
-                }
-                CoerTerm::If(condition, on_true, on_false) => {
-                    let operand = self.place(&mut waits, condition)?;
-                    let one = Box::new(self.alloc, self.code(on_true, waits.depth)?)?;
-                    let other = Box::new(self.alloc, self.code(on_false, waits.depth)?)?;
-                    return waits.before(FlatBody::Choose(operand, one, other));
-                }
-                CoerTerm::Seq(terms) => return self.sequence(waits, terms),
-                CoerTerm::Coerce(term, number) => {
-                    let operand = self.place(&mut waits, term)?;
-                    return waits.give(Operation::Cast(operand, *number));
-                }
-                CoerTerm::Proj(term, k) => {
-                    let operand = self.place(&mut waits, term)?;
-                    return waits.give(Operation::Proj(operand, *k));
-                }
-                CoerTerm::ProjDyn(term, k, label) => {
-                    let operand = self.place(&mut waits, term)?;
-                    return waits.give(Operation::ProjDyn(operand, *k, *label));
-                }
-                CoerTerm::Tuple(parts) => {
-                    let mut operands = Operands::new(self.alloc);
-                    self.gather(&mut waits, parts, &mut operands)?;
-                    return waits.give(Operation::Tuple(operands));
-                }
-                CoerTerm::Prim(operator, terms) => {
-                    let mut operands = Operands::new(self.alloc);
-                    self.gather(&mut waits, terms, &mut operands)?;
-                    return waits.give(Operation::Prim(*operator, operands));
-                }
+        let last = match term {
+            CoerTerm::Int(n) => moved(Operand::Int(*n)),
+            CoerTerm::Bool(b) => moved(Operand::Bool(*b)),
+            CoerTerm::Unit => moved(Operand::Unit),
+            CoerTerm::Var(name) => moved(self.names.operand(name.0)?),
+            CoerTerm::Lambda(params, body, _) => {
+                let made = Operand::Local(waits.depth);
+                self.lambda(waits, params, body)?;
+                moved(made)
             }
-        }
+            CoerTerm::Group(members, body) => {
+                self.group(waits, members)?;
+                self.last(waits, body)?
+            }
+            CoerTerm::Let(bindings, body) => {
+                self.bindings(waits, bindings)?;
+                self.last(waits, body)?
+            }
+            CoerTerm::Call(function, arguments) => {
+                let function = self.place(waits, function)?;
+                let operands = self.gather(waits, arguments)?;
+                FlatBody::Call(function, operands)
+            }
+            CoerTerm::If(condition, on_true, on_false) => {
+                let operand = self.place(waits, condition)?;
+                let one = boxed_made(self.alloc, self.code(on_true, waits.depth))?;
+                let other = boxed_made(self.alloc, self.code(on_false, waits.depth))?;
+                FlatBody::Choose(operand, one, other)
+            }
+            CoerTerm::Seq(terms) => self.sequence(waits, terms)?,
+            CoerTerm::Coerce(term, number) => {
+                let operand = self.place(waits, term)?;
+                FlatBody::Give(Operation::Cast(operand, *number))
+            }
+            CoerTerm::Proj(term, k) => {
+                let operand = self.place(waits, term)?;
+                FlatBody::Give(Operation::Proj(operand, *k))
+            }
+            CoerTerm::ProjDyn(term, k, label) => {
+                let operand = self.place(waits, term)?;
+                FlatBody::Give(Operation::ProjDyn(operand, *k, *label))
+            }
+            CoerTerm::Tuple(parts) => {
+                let operands = self.gather(waits, parts)?;
+                FlatBody::Give(Operation::Tuple(operands))
+            }
+            CoerTerm::Prim(operator, terms) => {
+                let operands = self.gather(waits, terms)?;
+                FlatBody::Give(Operation::Prim(*operator, operands))
+            }
+        };
+        Ok(last)
     }
+}
+
+// The body that gives an operand.
+fn moved(operand: Operand) -> FlatBody
+    ensures { body_of result ≡ Give (Move operand) }
+{
+    FlatBody::Give(Operation::Move(operand))
 }
 
 // The names of a group's functions.

@@ -1,12 +1,12 @@
 // Bodies without their end: what is bound in front of it, gathered one after another.
 
 ghost use Rattle.std.specs.Prelude.{◌≡◌, ◌+◌, suc, [], IfOk, OnOk};
-ghost use Rattle.flat_ir.specs.Bodies.{Give, LetBody, LetGroup};
+ghost use Rattle.flat_ir.specs.Bodies.{LetBody, LetGroup};
 ghost use Rattle.flat_ir.specs.Views.{body_of};
 ghost use Rattle.closure_convert.specs.Waits.{Puts, ahead, put};
 
 use crate::numbers::narrow;
-use flat_ir::code::{FlatBody, Operand, Operands, Operation};
+use flat_ir::code::{FlatBody, Operand, Operands};
 use grift_base::lists::OutOfMemory;
 use std::alloc::Global;
 
@@ -96,7 +96,7 @@ impl Waits {
     }
 
     /// All that is bound, and behind it this body.
-    pub fn before(mut self, end: FlatBody) -> Result<FlatBody, OutOfMemory>
+    pub fn ahead_of(mut self, end: FlatBody) -> Result<FlatBody, OutOfMemory>
         ensures { IfOk result (λ body. body_of body ≡ ahead self.waits.items (body_of end)) }
     {
         let mut body = end;
@@ -104,12 +104,5 @@ impl Waits {
             body = wait.put(self.alloc, body)?;
         }
         Ok(body)
-    }
-
-    /// All that is bound, and behind it the value of an operation.
-    pub fn give(self, operation: Operation) -> Result<FlatBody, OutOfMemory>
-        ensures { IfOk result (λ body. body_of body ≡ ahead self.waits.items (Give operation)) }
-    {
-        self.before(FlatBody::Give(operation))
     }
 }

@@ -12,15 +12,15 @@ use Rattle.grift_base.specs.declared.verdicts.Verdict.{Verdict}
 use Rattle.core_calc.specs.Redex.{where_some, pending_contexts}
 use Rattle.core_calc.specs.Calculus.{CalcState, start}
 use Rattle.core_calc.specs.Calculus.{ending_of, calculus}
-use Rattle.core_calc.specs.Account.{Measures, wrap_charge, StepKind, Wraps, Casts, Makes, MakesVector, Multiplies, Acts}
+use Rattle.core_calc.specs.Account.{Measures, wrap_charge, StepKind, Wraps, Casts, Makes}
 use Rattle.core_calc.specs.Account.{kind_of_step, charge, more_work, Account, Accounted, first_account}
 use Rattle.core_calc.specs.Account.{account_of, accounting}
 use Rattle.cast_modes.specs.Modes.{TypeCast, piling}
 use Rattle.cast_modes.specs.ValueSteps.{CastFrame, ProjFrame, PrimFrame, EnterFrame, OwnFrame, Own, Return, Entering}
-use Rattle.cast_modes.specs.ValueSteps.{On, BlameOf, TrapOf, NoNext}
+use Rattle.cast_modes.specs.ValueSteps.{On}
 use Rattle.cast_modes.specs.AnswerTypes.{Told}
-use Rattle.coer_core.specs.Terms.{RowTerm, core_of, RowInt, RowBool, RowUnit, RowVar, RowLambda, RowGroup, RowLet}
-use Rattle.coer_core.specs.Terms.{RowCall, RowIf, RowSeq, RowCast, RowProj, RowProjDyn, RowTuple, RowPrim, NoRowTerms}
+use Rattle.coer_core.specs.Terms.{RowTerm, core_of, RowLambda, RowGroup}
+use Rattle.coer_core.specs.Terms.{NoRowTerms}
 use Rattle.coer_core.specs.Terms.{RowTermThen}
 use Rattle.coer_core.specs.Machine.{Eval, turn, ending_at, after_turn, running}
 use Rattle.coer_core.specs.Machine.{run_start, Calling, Tupling, Operating, IfFrame, SeqFrame, FunFrame, ProjDynFrame}
@@ -54,9 +54,7 @@ asks_within m w kind words le (inr e) =
     same Wraps = omega arith
     same Casts = omega arith
     same Makes = le
-    same (MakesVector k) = omega arith
-    same Multiplies = omega arith
-    same Acts = omega arith
+    same _ = omega arith
 
 wraps_within : (z size : ℕ) → 896 + 64 * z + 128 ≤ 64 * (size + 16 + z)
 wraps_within z size = omega arith
@@ -73,9 +71,7 @@ budget_within m w kind words le (inr e) =
     same Wraps = wraps_within (wrap_charge m) m.size
     same Casts = omega arith
     same Makes = omega (arith, le)
-    same (MakesVector k) = omega arith
-    same Multiplies = omega arith
-    same Acts = omega arith
+    same _ = omega arith
 
 -- ---- what is made where all terms fit
 
@@ -83,19 +79,7 @@ module _ (n : ℕ) where
   eval_fits : (term : RowTerm) → FitsIn n term → eval_words term ≤ n
   eval_fits (RowLambda parameters body type) f = f.0
   eval_fits (RowGroup members body) f = f.0
-  eval_fits (RowInt i) f = omega arith
-  eval_fits (RowBool b) f = omega arith
-  eval_fits RowUnit f = omega arith
-  eval_fits (RowVar name) f = omega arith
-  eval_fits (RowLet bindings body) f = omega arith
-  eval_fits (RowCall function arguments) f = omega arith
-  eval_fits (RowIf condition on_true on_false) f = omega arith
-  eval_fits (RowSeq terms) f = omega arith
-  eval_fits (RowCast term number) f = omega arith
-  eval_fits (RowProj term k) f = omega arith
-  eval_fits (RowProjDyn term k label) f = omega arith
-  eval_fits (RowTuple parts) f = omega arith
-  eval_fits (RowPrim operator operands) f = omega arith
+  eval_fits _ f = omega arith
 
   function_fits : (focus : PiledFocus) → FitFocus n focus → function_words focus ≤ n
   function_fits (Own (Eval term env)) f = eval_fits term f.0
@@ -130,9 +114,7 @@ module _ (n : ℕ) where
 
   fit_after_turn : (s : PiledState) (after : PiledAfter) → FitState s → FitAfter n after → FitState (after_turn s after)
   fit_after_turn s (On focus frames store world) f g = g
-  fit_after_turn s (BlameOf label) f g = f
-  fit_after_turn s (TrapOf trap world) f g = f
-  fit_after_turn s NoNext f g = f
+  fit_after_turn s _ f g = f
 
 module _ (types : TypeRows) (rows : List TypeCast) (labels : List Pos) (answer : ℕ) (Good : CalcState → Type 0)
     (keeps : Keeps types rows labels answer Good) (m : Measures) where

@@ -1,15 +1,11 @@
 -- The set of casts numbers them as the definitions do.
 use Rattle.std.proofs.Common.{◌≡◌, Bool, true, false, List, [], ◌∷◌, ◌++◌, refl, sym, ap, ◌∙◌, if◌then◌else◌}
-use Rattle.std.proofs.Common.{rules, Decides}
 use Rattle.std.specs.List.{list_any, position_or_len}
 use Rattle.std.proofs.lemmas.List.{map-append}
 use Rattle.indexmap.specs.IndexSet.{insert_key}
 use Rattle.coercion_norm.specs.declared.casts.Cast.{Cast}
 use Rattle.coercion_norm.specs.contracts.casts.CastPartialEq.TheImpl.{ghosts}
 use Rattle.coer_core.specs.Conversion.{same_cast, number_of, with_cast, cast_view, cast_views}
-
-pub same_cast_key : (x y : Cast) → Decides (ghosts.eq x y) (x ≡ y)
-same_cast_key x y = search rules
 
 any_views : (cast : Cast) (keys : List Cast)
     → list_any (same_cast (cast_view cast)) (cast_views keys) ≡ list_any (ghosts.eq cast) keys

@@ -179,14 +179,6 @@ module _ {C D : Type 0} (like : Likeness C D) (m : Mode C) (n : Mode D) (set : S
           at_peak y on =
               let x = where_less y.state.ended (asks_of n set.told set.price y.state) in
               let z = where_none peak.state.ended (asks_of m set.told (price0 like m n set) peak.state) peak.runs in
-              let grows = on.words_grow in
-              let words = on.words_most in
-              let frames = on.frames_most in
-              let asked = top.asked in
-              let waits = top.waits in
-              let more = peak.more in
-              let asks = peak.asks in
-              let long = peak.long in
               let fewer = no_more_frames like k' k fr in
               record {
                 at = peak.at;
@@ -194,9 +186,9 @@ module _ {C D : Type 0} (like : Likeness C D) (m : Mode C) (n : Mode D) (set : S
                 shown =
                     subst (λ z. NoMore (N1.shown y) z.shown) (sym peak.there)
                     (record {
-                      reach = omega (arith, x, z, words, asked, lw, more, asks);
-                      asks = omega (arith, x, z, grows, words, asked, asks);
-                      frames = omega (arith, frames, waits, fewer, long);
+                      reach = omega arith;
+                      asks = omega arith;
+                      frames = omega arith;
                     });
               }
 
@@ -210,12 +202,7 @@ module _ {C D : Type 0} (like : Likeness C D) (m : Mode C) (n : Mode D) (set : S
         let b = second tt in
         let le = one.1 in
         let lt = b.1 in
-        let asked = b.3.asked in
-        let pays = b.3.paid in
-        let makes = b.3.made in
-        let enough = one.3.asked in
-        let paid = one.3.paid in
-        let made = one.3.made in
+        let enough = one.3 in
         let sums = most_less m set.told (price0 like m n set) one.0 s in
         inl (record {
           ways = record {
@@ -230,7 +217,7 @@ module _ {C D : Type 0} (like : Likeness C D) (m : Mode C) (n : Mode D) (set : S
             second =
                 seen most acts budget spare some w a p w1 a1 p1 lw la lp b.0 (state_at (Return u) k' store1 world) b.2
                 (peak_at most acts budget spare some w a p w1 a1 p1 lw la lp one.0 (state_at (Return v) k store world)
-                one.2 enough)
+                one.2 enough.asked)
                 b.3;
           };
           left = 0;
@@ -247,27 +234,19 @@ module _ {C D : Type 0} (like : Likeness C D) (m : Mode C) (n : Mode D) (set : S
             foci = (v, refl, r);
             all_frames = fr;
             stores = stores;
-            words = omega (arith, lw, asked, enough, sums);
-            acts = omega (arith, la, makes, made);
-            paid = omega (arith, lp, pays, paid);
+            words = omega arith;
+            acts = omega arith;
+            paid = omega arith;
           };
           first_moves = inl (omega (arith, le));
           second_moves = inl (omega (arith, lt));
         })
     casts_go most acts budget spare some (BlamedBy label) (BlamedBy other) one second r = λ w a p w1 a1 p1 lw la lp.
         let b = second tt in
-        let asked = b.8.asked in
-        let pays = b.8.paid in
-        let makes = b.8.made in
-        let waits = b.8.waits in
-        let enough = one.8.asked in
-        let paid = one.8.paid in
-        let made = one.8.made in
+        let enough = one.8 in
         let sums = most_less m set.told (price0 like m n set) one.0 s in
         let none = where_ended b.2.ended (Blamed other) (asks_of n set.told set.price b.2) b.4 in
         let fewer = no_more_frames like k' k fr in
-        let long = one.6 in
-        let last = b.7 in
         inr (inl (record {
           ways = record {
             first_steps = one.0;
@@ -277,7 +256,7 @@ module _ {C D : Type 0} (like : Likeness C D) (m : Mode C) (n : Mode D) (set : S
             first = met most acts budget spare some w a p w1 a1 p1 lw la lp one.0 one.2 one.3;
             second =
                 seen most acts budget spare some w a p w1 a1 p1 lw la lp b.0 b.2 b.3
-                (peak_at most acts budget spare some w a p w1 a1 p1 lw la lp one.0 one.2 one.3 enough) b.8;
+                (peak_at most acts budget spare some w a p w1 a1 p1 lw la lp one.0 one.2 one.3 enough.asked) b.8;
           };
           ending = ending_of set.told.labels (Blamed label);
           first_ends = ap (option_map (λ end. ending_at set.told end one.2.focus)) one.4;
@@ -286,11 +265,11 @@ module _ {C D : Type 0} (like : Likeness C D) (m : Mode C) (n : Mode D) (set : S
               ∙ ap (λ l. Some (ending_of set.told.labels (Blamed l))) r;
           output = b.5 ∙ sym one.5;
           shown = record {
-            reach = omega (arith, none, lw, asked, enough, sums);
-            asks = omega (arith, none);
-            frames = omega (arith, last, waits, fewer, long);
+            reach = omega arith;
+            asks = omega arith;
+            frames = omega arith;
           };
-          allowed = record { acts = omega (arith, la, makes, made); paid = omega (arith, lp, pays, paid) };
+          allowed = record { acts = omega arith; paid = omega arith };
         }))
     casts_go most acts budget spare some NoResult b a second r = goes_wrong like m n set i spare a.0 s t a.1
     casts_go most acts budget spare some (Got v) (BlamedBy other) a b r = absurd r

@@ -20,8 +20,8 @@ use Rattle.coer_core.specs.Conversion.{casts_in, casts_in_all, casts_in_members,
 use Rattle.coer_core.specs.Conversion.{number_of, with_cast, with_casts, converted, converted_all, converted_members}
 use Rattle.coer_core.specs.Conversion.{converted_bindings}
 use Rattle.coer_core.specs.Uses.{OperatorUse, DynPartUse, CastUse, uses_in, uses_in_all, uses_in_members}
-use Rattle.coer_core.specs.Uses.{uses_in_bindings, row_uses, row_uses_of_all, row_uses_of_members}
-use Rattle.coer_core.specs.Uses.{row_uses_of_bindings}
+use Rattle.coer_core.specs.Uses.{uses_in_bindings, row_uses, listed_of_all, listed_of_members, listed_of_bindings}
+use Rattle.coer_core.specs.Uses.{cast_use, operator_use}
 use Rattle.coer_core.proofs.Joining.{ap2, ap3}
 
 -- ---- one cast
@@ -316,19 +316,21 @@ mutual
   same_uses (ValueTerm v) casts w = absurd w
 
   same_uses_all : (terms : Terms) (casts : List TypeCast) → AreWritten terms
-      → row_uses_of_all (converted_all casts terms).term ≡ uses_in_all terms
+      → listed_of_all cast_use DynPartUse operator_use (converted_all casts terms).term ≡ uses_in_all terms
   same_uses_all NoTerms casts w = refl
   same_uses_all (TermThen term rest) casts w =
       ap2 (λ x y. x ++ y) (same_uses term casts w.0) (same_uses_all rest (converted casts term).casts w.1)
 
   same_uses_members : (members : Members) (casts : List TypeCast) → AreWrittenMembers members
-      → row_uses_of_members (converted_members casts members).term ≡ uses_in_members members
+      → listed_of_members cast_use DynPartUse operator_use (converted_members casts members).term
+      ≡ uses_in_members members
   same_uses_members NoMembers casts w = refl
   same_uses_members (MemberThen name parameters body type rest) casts w =
       ap2 (λ x y. x ++ y) (same_uses body casts w.0) (same_uses_members rest (converted casts body).casts w.1)
 
   same_uses_bindings : (bindings : Bindings) (casts : List TypeCast) → AreWrittenBindings bindings
-      → row_uses_of_bindings (converted_bindings casts bindings).term ≡ uses_in_bindings bindings
+      → listed_of_bindings cast_use DynPartUse operator_use (converted_bindings casts bindings).term
+      ≡ uses_in_bindings bindings
   same_uses_bindings NoBindings casts w = refl
   same_uses_bindings (BindingThen name bound rest) casts w =
       ap2 (λ x y. x ++ y) (same_uses bound casts w.0) (same_uses_bindings rest (converted casts bound).casts w.1)

@@ -118,9 +118,7 @@ module _ (types : TypeRows) (rows : List TypeCast) (labels : List Pos) (answer :
 
   blank_ending : (end : CalcEnd) (focus : PiledFocus) → IsBlank end → ending_at told end focus ≡ ending_of labels end
   blank_ending (Answered shown) focus b = absurd b
-  blank_ending (Blamed label) focus b = refl
-  blank_ending (Trapped trap) focus b = refl
-  blank_ending NoStep focus b = refl
+  blank_ending _ focus b = refl
 
   module _ (focus : PiledFocus) (frames : List PiledFrame) (store : PiledStore) (world : WorldState) (whole : Term)
       (unended : ended_at focus frames ≡ None) (fine : Good (state_of whole (store_of rows store) world)) where

@@ -2,8 +2,8 @@
 use Rattle.std.proofs.Common.{◌≡◌, List, [], ◌∷◌, refl, sym, pos, negsuc}
 use Rattle.grift_base.specs.declared.operators.PrimOp.{PrimOp}
 use Rattle.grift_base.specs.declared.operators.PrimOp.TheVariants.{MakeVector}
-use Rattle.cast_modes.specs.Modes.{Decision, Keeping, Wrapping, Rewrapping, Unwrapping, Injecting, Opening, Making}
-use Rattle.cast_modes.specs.Modes.{Blaming, NoCast, Mode}
+use Rattle.cast_modes.specs.Modes.{Decision, Wrapping}
+use Rattle.cast_modes.specs.Modes.{Mode}
 use Rattle.cast_modes.specs.RunValues.{RunInt, RunWrap, shape_of}
 use Rattle.cast_modes.specs.ValueSteps.{CastFrame, ProjFrame, PrimFrame, EnterFrame, OwnFrame, Own, Return, Entering}
 use Rattle.cast_modes.specs.ValueSteps.{decision_wraps, onto}
@@ -18,14 +18,7 @@ use Rattle.coer_core.specs.Tally.{decision_kind, plain_kind, enter_kind, turn_ki
 
 decision_made : {C : Type 0} (d : Decision C) → decision_wraps d ≡ kind_wraps (decision_kind d)
 decision_made (Wrapping cast) = refl
-decision_made Keeping = refl
-decision_made (Rewrapping cast) = refl
-decision_made Unwrapping = refl
-decision_made (Injecting kept) = refl
-decision_made (Opening cast) = refl
-decision_made (Making cast next) = refl
-decision_made (Blaming label) = refl
-decision_made NoCast = refl
+decision_made _ = refl
 
 bind_none : (bindings : RowBindings) → made_wraps (bind_kind bindings) ≡ 0
 bind_none NoRowBindings = refl

@@ -94,25 +94,13 @@ module _ (types : TypeRows) (rows : List TypeCast) (measures : Measures) (under 
     left_within a c b w (Making d e) s u = absurd s
     left_within a c b w _ s u = none_within a c b
 
-    stays_asks : (d : Coercion) (shape : Shape Coercion) (decision : Decision Coercion) → StaysAt decision
-        → effort_asks measures (effort types d shape decision) ≤ half
-    stays_asks d shape (Wrapping e) s = omega arith
-    stays_asks d shape (Rewrapping e) s = omega arith
-    stays_asks d shape Unwrapping s = omega arith
-    stays_asks d shape (Injecting kept) s = absurd s
-    stays_asks d shape (Opening e) s = absurd s
-    stays_asks d shape (Making e f) s = absurd s
-    stays_asks d shape _ s = omega arith
-
-    stays_budget : (d : Coercion) (shape : Shape Coercion) (decision : Decision Coercion) → StaysAt decision
-        → effort_budget measures (effort types d shape decision) ≤ 896 + 64 * half
-    stays_budget d shape (Wrapping e) s = omega arith
-    stays_budget d shape (Rewrapping e) s = omega arith
-    stays_budget d shape Unwrapping s = omega arith
-    stays_budget d shape (Injecting kept) s = absurd s
-    stays_budget d shape (Opening e) s = absurd s
-    stays_budget d shape (Making e f) s = absurd s
-    stays_budget d shape _ s = omega arith
+    stays_effort : (d : Coercion) (shape : Shape Coercion) (decision : Decision Coercion) → StaysAt decision
+        → (effort_asks measures (effort types d shape decision) ≤ half)
+        × (effort_budget measures (effort types d shape decision) ≤ 896 + 64 * half)
+    stays_effort d shape (Injecting kept) s = absurd s
+    stays_effort d shape (Opening e) s = absurd s
+    stays_effort d shape (Making e f) s = absurd s
+    stays_effort d shape _ s = (omega arith, omega arith)
 
     at_most_one : (e : Effort) → effort_acts e ≤ 1
     at_most_one Splits = omega arith
@@ -122,9 +110,10 @@ module _ (types : TypeRows) (rows : List TypeCast) (measures : Measures) (under 
         → (d : Coercion) (decision : Decision Coercion) → StaysAt decision
         → Within (half + a) (1 + c) (896 + 64 * half + b) (by_decision d decision)
     stays_within a c b short w d decision s =
-        then_within _ _ _ _ a c b half 1 (896 + 64 * half) _ (stays_asks d (shape_of code_arity u) decision s)
-        (at_most_one (effort types d (shape_of code_arity u) decision))
-        (stays_budget d (shape_of code_arity u) decision s) (omega (arith, short)) (left_within a c b w decision s u)
+        let e = stays_effort d (shape_of code_arity u) decision s in
+        then_within _ _ _ _ a c b half 1 (896 + 64 * half) _ e.0
+        (at_most_one (effort types d (shape_of code_arity u) decision)) e.1 (omega (arith, short))
+        (left_within a c b w decision s u)
 
   middle_stays : (kind : Kind) (parts : Coercions) (shape : Shape Coercion) → StaysAt (n.cast (Middle kind parts) shape)
   middle_stays kind parts shape = by_head (shape_has_head shape (middle_head kind (width parts))) shape

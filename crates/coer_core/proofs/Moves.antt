@@ -24,7 +24,7 @@ use Rattle.grift_base.specs.declared.operators.PrimOp.TheVariants.{PrintInt, New
 use Rattle.grift_base.specs.declared.operators.PrimOp.TheVariants.{VectorRef, VectorSet, VectorLength, MakeVector}
 use Rattle.core_calc.specs.Account.{prim_kind, vector_kind}
 use Rattle.coer_core.specs.Tally.{made_vector}
-use Rattle.cast_modes.specs.RunValues.{RunInt, RunUnit, RunTuple, RunLoc, RunInject}
+use Rattle.cast_modes.specs.RunValues.{RunInt}
 use Rattle.std.proofs.Common.{pos, negsuc}
 use Rattle.coer_core.specs.Terms.{RowTerm, RowInt, RowBool, RowUnit, RowVar, RowLambda, RowGroup, RowLet, RowCall}
 use Rattle.coer_core.specs.Terms.{RowIf, RowSeq, RowCast, RowProj, RowProjDyn, RowTuple, RowPrim, RowTerms, NoRowTerms}
@@ -92,12 +92,7 @@ module _ (types : TypeRows) (rows : List TypeCast) (store : PiledStore) (world :
   same_vector (RunInt (negsuc k) ∷ rest) = refl
   same_vector (RunFun (LambdaCode parameters body type names) captured ∷ rest) = refl
   same_vector (RunFun (MemberCode group place names) captured ∷ rest) = refl
-  same_vector (RunBool b ∷ rest) = refl
-  same_vector (RunUnit ∷ rest) = refl
-  same_vector (RunTuple values ∷ rest) = refl
-  same_vector (RunLoc cell is_vector ∷ rest) = refl
-  same_vector (RunWrap v cast ∷ rest) = refl
-  same_vector (RunInject v kept ∷ rest) = refl
+  same_vector _ = refl
 
   same_operator : (operator : PrimOp) (values : List PiledValue)
       → operator_kind operator (map (value_of rows) values) ≡ operating_kind operator values

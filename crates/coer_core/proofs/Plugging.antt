@@ -6,7 +6,7 @@ use Rattle.core_calc.specs.Terms.{Term, Terms, Bindings, Value, Let, Call, Enter
 use Rattle.core_calc.specs.Terms.{Prim, NoTerms, TermThen, NoBindings, BindingThen, FunValue, MemberValue, as_value}
 use Rattle.core_calc.specs.Terms.{all_values, bound_values, binding_names}
 use Rattle.core_calc.specs.Substitution.{bind, group_values}
-use Rattle.core_calc.specs.Outcome.{Store, Outcome, Goes, Blames, Traps, Stuck, inside}
+use Rattle.core_calc.specs.Outcome.{Store, Outcome, Goes, Stuck, inside}
 use Rattle.core_calc.specs.Calls.{enter_body, enter_member, enter_step}
 use Rattle.core_calc.specs.Redex.{Focus, here, below, along, where_some, enter_focus, focus, focus_terms}
 use Rattle.core_calc.specs.Redex.{focus_bindings, redex}
@@ -24,15 +24,11 @@ use Rattle.coer_core.proofs.Unload.{PiledValue, PiledEnv, PiledFrame, value_of, 
 pub inside_inside : {A B C : Type 0} (f : B → C) (g : A → B) (o : Outcome A)
     → inside f (inside g o) ≡ inside (λ x. f (g x)) o
 inside_inside f g (Goes a store world) = refl
-inside_inside f g (Blames label) = refl
-inside_inside f g (Traps trap world) = refl
-inside_inside f g Stuck = refl
+inside_inside f g _ = refl
 
 pub inside_same : {A : Type 0} (o : Outcome A) → o ≡ inside (λ x. x) o
 inside_same (Goes a store world) = refl
-inside_same (Blames label) = refl
-inside_same (Traps trap world) = refl
-inside_same Stuck = refl
+inside_same _ = refl
 
 -- the next redex of terms that aren't all values
 abbrev pub redex_terms : Terms → Term

@@ -4,6 +4,7 @@ use Rattle.std.proofs.Common.{[], ◌∷◌, ◌++◌, length, Option, Some, Non
 use Rattle.std.proofs.Common.{slice_get, slice_set}
 use Rattle.std.specs.Prelude.{option_map, if◌then◌else◌}
 use Rattle.std.specs.Ordering.{int_eq}
+use Rattle.std.specs.List.{AllByRecursion}
 use Rattle.grift_base.specs.World.{WorldState}
 use Rattle.grift_base.specs.Reading.{next_number}
 use Rattle.grift_base.specs.declared.operators.PrimOp.{PrimOp}
@@ -36,11 +37,7 @@ use Rattle.coer_core.specs.Machine.{GatherFrame, LetFrame, env_names, env_values
 use Rattle.coer_core.specs.Machine.{members_in, group_env, entered_body, entered_member, entered, finish, gather}
 use Rattle.coer_core.specs.Machine.{bind_next, choose, eval, resume, back, turn}
 use Rattle.coer_core.specs.Counts.{row_member_count, lambda_captures, group_captures}
-
--- how many terms there are
-abbrev pub how_many : RowTerms → ℕ
-how_many NoRowTerms = 0
-how_many (RowTermThen term rest) = suc (how_many rest)
+use Rattle.coer_core.specs.Uses.{how_many}
 
 -- what holds of a thing that may be there
 abbrev pub FitOption : {A : Type 0} → (A → Type 0) → Option A → Type 0
@@ -104,20 +101,16 @@ module _ (n : ℕ) where
       FitValues (RunValueThen v rest) = FitValue v × FitValues rest
 
     abbrev pub FitList : List (CoerValue C) → Type 0
-    FitList [] = Unit {0}
-    FitList (v ∷ rest) = FitValue v × FitList rest
+    FitList values = AllByRecursion FitValue values
 
     abbrev pub FitEnv : Env C → Type 0
-    FitEnv [] = Unit {0}
-    FitEnv (entry ∷ rest) = FitValue entry.1 × FitEnv rest
+    FitEnv env = AllByRecursion (λ entry. FitValue entry.1) env
 
     abbrev pub FitPendings : List (CoerPending C) → Type 0
-    FitPendings [] = Unit {0}
-    FitPendings (p ∷ rest) = FitValue p.value × FitPendings rest
+    FitPendings todo = AllByRecursion (λ p. FitValue p.value) todo
 
     abbrev pub FitStore : CoerStore C → Type 0
-    FitStore [] = Unit {0}
-    FitStore (cell ∷ rest) = FitList cell × FitStore rest
+    FitStore store = AllByRecursion FitList store
 
     -- ---- states
 
@@ -349,12 +342,7 @@ module _ (n : ℕ) where
           fit_some FitPlace (entered code captured values) _ (fit_entered code captured values f.0 f.1 g)
           (λ place p. (p, h, fit_store))
       fit_apply (RunInt i) values k f g h = tt
-      fit_apply (RunBool b) values k f g h = tt
-      fit_apply RunUnit values k f g h = tt
-      fit_apply (RunTuple parts) values k f g h = tt
-      fit_apply (RunLoc cell is_vector) values k f g h = tt
-      fit_apply (RunWrap v cast) values k f g h = tt
-      fit_apply (RunInject v kept) values k f g h = tt
+      fit_apply _ values k f g h = tt
 
       fit_next : (f : CoerValue C) (done : List (CoerValue C)) (v : CoerValue C) (casts : List C)
           (todo : List (CoerPending C)) (k : List (CoerFrame C)) → FitValue f → FitList done → FitValue v
@@ -393,12 +381,7 @@ module _ (n : ℕ) where
           fit_some FitValue (element_at (row_list values) i) _
           (fit_element (row_list values) i (fit_listed values f)) (λ v p. (p, g, fit_store))
       fit_proj (RunWrap v cast) i k f g = fit_any (mode.projecting cast i) _ (λ part. (f, (tt, (tt, g)), fit_store))
-      fit_proj (RunInt x) i k f g = tt
-      fit_proj (RunBool x) i k f g = tt
-      fit_proj RunUnit i k f g = tt
-      fit_proj (RunFun code captured) i k f g = tt
-      fit_proj (RunLoc cell is_vector) i k f g = tt
-      fit_proj (RunInject v kept) i k f g = tt
+      fit_proj _ i k f g = tt
 
       fit_part : (part : DynPart C) (v : CoerValue C) (i : ℤ) (label : ℕ) (k : List (CoerFrame C)) → FitValue v
           → FitFrames k → FitAfter (blame_or_proj mode code_arity entered store world part v i label k)
@@ -614,13 +597,7 @@ module _ (n : ℕ) where
           → FitAfter (choose mode store world v on_true on_false env k)
       fit_choose (RunBool true) on_true on_false env k a b c g = ((a, c), g, fit_store)
       fit_choose (RunBool false) on_true on_false env k a b c g = ((b, c), g, fit_store)
-      fit_choose (RunInt i) on_true on_false env k a b c g = tt
-      fit_choose RunUnit on_true on_false env k a b c g = tt
-      fit_choose (RunFun code captured) on_true on_false env k a b c g = tt
-      fit_choose (RunTuple parts) on_true on_false env k a b c g = tt
-      fit_choose (RunLoc cell is_vector) on_true on_false env k a b c g = tt
-      fit_choose (RunWrap v cast) on_true on_false env k a b c g = tt
-      fit_choose (RunInject v kept) on_true on_false env k a b c g = tt
+      fit_choose _ on_true on_false env k a b c g = tt
 
       fit_eval : (term : RowTerm) (env : Env C) (k : List (CoerFrame C)) → FitsIn term → FitEnv env → FitFrames k
           → FitAfter (eval mode store world term env k)

@@ -4,8 +4,8 @@ use Rattle.std.proofs.Common.{◌≡◌, ℕ, suc, ◌+◌, ◌*◌, ◌≤◌, 
 use Rattle.std.proofs.Common.{◌++◌, length, Option, Some, None, refl, sym, ap, ◌∙◌, subst, arith, slice_get}
 use Rattle.std.proofs.lemmas.Bool.{eqb-true, eq-eqb}
 use Rattle.grift_base.specs.Types.{TypeRows}
-use Rattle.core_calc.specs.Terms.{Term, IntLit, BoolLit, UnitLit, Var, Lambda, Group, Let}
-use Rattle.core_calc.specs.Terms.{Call, Enter, If, Seq, Cast, Proj, ProjDyn, Tuple, Prim, ValueTerm}
+use Rattle.core_calc.specs.Terms.{Term, IntLit}
+use Rattle.core_calc.specs.Terms.{Prim}
 use Rattle.core_calc.specs.Terms.{both_in_front}
 use Rattle.core_calc.specs.Substitution.{entry_of, is_among, bind}
 use Rattle.core_calc.specs.Account.{extent, extent_of_all, extent_of_members, extent_of_bindings}
@@ -21,7 +21,8 @@ use Rattle.coer_core.specs.Machine.{env_names}
 use Rattle.coer_core.specs.Counts.{names_besides, row_member_names, row_binding_names, free_names, free_names_of_all}
 use Rattle.coer_core.specs.Counts.{free_names_of_members, free_names_of_bindings, each_once}
 use Rattle.coer_core.specs.Counts.{row_member_count}
-use Rattle.coer_core.proofs.Room.{how_many, FitsIn, FitAll, FitMembers, FitBindings}
+use Rattle.coer_core.specs.Uses.{how_many}
+use Rattle.coer_core.proofs.Room.{FitsIn, FitAll, FitMembers, FitBindings}
 
 -- ---- names in scope
 
@@ -240,22 +241,7 @@ bound_names (name ∷ names) (type ∷ types) bound e =
 
 some_nodes : (term : Term) → 1 ≤ extent term
 some_nodes (IntLit i) = omega arith
-some_nodes (BoolLit b) = omega arith
-some_nodes UnitLit = omega arith
-some_nodes (Var name) = omega arith
-some_nodes (Lambda parameters body type) = omega arith
-some_nodes (Group group body) = omega arith
-some_nodes (Let bound body) = omega arith
-some_nodes (Call function arguments) = omega arith
-some_nodes (Enter function arguments) = omega arith
-some_nodes (If condition on_true on_false) = omega arith
-some_nodes (Seq terms) = omega arith
-some_nodes (Cast term from to label) = omega arith
-some_nodes (Proj term k) = omega arith
-some_nodes (ProjDyn term k label) = omega arith
-some_nodes (Tuple parts) = omega arith
-some_nodes (Prim operator operands) = omega arith
-some_nodes (ValueTerm v) = omega arith
+some_nodes _ = omega arith
 
 module _ (rows : List TypeCast) where
   terms_nodes : (terms : RowTerms) → how_many terms ≤ extent_of_all (core_terms rows terms)

@@ -8,6 +8,7 @@ use Rattle.grift_base.specs.Types.{TypeHead, IntHead, BoolHead, UnitHead, FunHea
 use Rattle.grift_base.specs.Types.{TypeRows, row_at, head_of, equal_heads, is_dyn}
 use Rattle.grift_base.specs.declared.places.Pos.{Pos}
 use Rattle.grift_base.specs.Types.{DynHead}
+use Rattle.grift_base.proofs.Public.{each_row}
 use Rattle.cast_modes.specs.AnswerTypes.{fits_type, row_has_head, run_head}
 use Rattle.coercion_norm.proofs.Public.{heads_exact}
 use Rattle.coer_core.proofs.Joining.{ap2}
@@ -145,14 +146,8 @@ module _ (types : TypeRows) (labels : ℕ) (cells : List CellType) (rows : List 
   -- ---- answers
 
   dyn_heads : (row : TypeRow) → equal_heads DynHead (head_of row) ≡ is_dyn row
-  dyn_heads IntRow = refl
-  dyn_heads BoolRow = refl
-  dyn_heads UnitRow = refl
-  dyn_heads DynRow = refl
-  dyn_heads (FunRow parameters answer) = refl
-  dyn_heads (TupleRow parts) = refl
-  dyn_heads (RefRow content) = refl
-  dyn_heads (VectRow content) = refl
+  dyn_heads = each_row (λ row. equal_heads DynHead (head_of row) ≡ is_dyn row)
+      refl refl refl refl (λ _ _. refl) (λ _. refl) (λ _. refl) (λ _. refl)
 
   true_false : true ≡ false → ⊥
   true_false e = cc

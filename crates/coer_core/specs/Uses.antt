@@ -1,6 +1,6 @@
 -- Which operators, parts of Dyn and casts stand in a term, in order and each as often as it stands there; and which
 -- numbers its casts have.
-use Rattle.std.specs.Prelude.{ℕ, ◌<◌, ℤ, List, [], ◌∷◌, ◌++◌}
+use Rattle.std.specs.Prelude.{ℕ, suc, ◌<◌, ℤ, List, [], ◌∷◌, ◌++◌}
 use Rattle.grift_base.specs.declared.operators.PrimOp.{PrimOp}
 use Rattle.core_calc.specs.Terms.{Term, Terms, Members, Bindings, IntLit, BoolLit, UnitLit, Var, Lambda, Group, Let}
 use Rattle.core_calc.specs.Terms.{Call, Enter, If, Seq, Cast, Proj, ProjDyn, Tuple, Prim, ValueTerm, NoTerms, TermThen}
@@ -49,36 +49,52 @@ abbrev mutual
   uses_in_bindings NoBindings = []
   uses_in_bindings (BindingThen name bound rest) = uses_in bound ++ uses_in_bindings rest
 
--- the same of terms whose casts are numbers
-abbrev mutual
-  pub row_uses : RowTerm → List Use
-  row_uses (RowInt n) = []
-  row_uses (RowBool b) = []
-  row_uses RowUnit = []
-  row_uses (RowVar name) = []
-  row_uses (RowLambda parameters body type) = row_uses body
-  row_uses (RowGroup members body) = row_uses_of_members members ++ row_uses body
-  row_uses (RowLet bindings body) = row_uses_of_bindings bindings ++ row_uses body
-  row_uses (RowCall function arguments) = row_uses function ++ row_uses_of_all arguments
-  row_uses (RowIf condition on_true on_false) = row_uses condition ++ (row_uses on_true ++ row_uses on_false)
-  row_uses (RowSeq terms) = row_uses_of_all terms
-  row_uses (RowCast term number) = CastUse ∷ row_uses term
-  row_uses (RowProj term k) = row_uses term
-  row_uses (RowProjDyn term k label) = DynPartUse k label ∷ row_uses term
-  row_uses (RowTuple parts) = row_uses_of_all parts
-  row_uses (RowPrim operator operands) = OperatorUse operator ∷ row_uses_of_all operands
+-- how many terms there are
+abbrev pub how_many : RowTerms → ℕ
+how_many NoRowTerms = 0
+how_many (RowTermThen term rest) = suc (how_many rest)
 
-  pub row_uses_of_all : RowTerms → List Use
-  row_uses_of_all NoRowTerms = []
-  row_uses_of_all (RowTermThen term rest) = row_uses term ++ row_uses_of_all rest
+-- what is listed of a term whose casts are numbers: of a cast, of a part of Dyn, and of an operator with its operands
+module _ {A : Type 0} (cast : ℕ → A) (part : ℤ → ℕ → A) (operation : PrimOp → RowTerms → A) where
+  abbrev mutual
+    pub listed : RowTerm → List A
+    listed (RowInt n) = []
+    listed (RowBool b) = []
+    listed RowUnit = []
+    listed (RowVar name) = []
+    listed (RowLambda parameters body type) = listed body
+    listed (RowGroup members body) = listed_of_members members ++ listed body
+    listed (RowLet bindings body) = listed_of_bindings bindings ++ listed body
+    listed (RowCall function arguments) = listed function ++ listed_of_all arguments
+    listed (RowIf condition on_true on_false) = listed condition ++ (listed on_true ++ listed on_false)
+    listed (RowSeq terms) = listed_of_all terms
+    listed (RowCast term number) = cast number ∷ listed term
+    listed (RowProj term k) = listed term
+    listed (RowProjDyn term k label) = part k label ∷ listed term
+    listed (RowTuple parts) = listed_of_all parts
+    listed (RowPrim operator operands) = operation operator operands ∷ listed_of_all operands
 
-  pub row_uses_of_members : RowMembers → List Use
-  row_uses_of_members NoRowMembers = []
-  row_uses_of_members (RowMemberThen name parameters body type rest) = row_uses body ++ row_uses_of_members rest
+    pub listed_of_all : RowTerms → List A
+    listed_of_all NoRowTerms = []
+    listed_of_all (RowTermThen term rest) = listed term ++ listed_of_all rest
 
-  pub row_uses_of_bindings : RowBindings → List Use
-  row_uses_of_bindings NoRowBindings = []
-  row_uses_of_bindings (RowBindingThen name bound rest) = row_uses bound ++ row_uses_of_bindings rest
+    pub listed_of_members : RowMembers → List A
+    listed_of_members NoRowMembers = []
+    listed_of_members (RowMemberThen name parameters body type rest) = listed body ++ listed_of_members rest
+
+    pub listed_of_bindings : RowBindings → List A
+    listed_of_bindings NoRowBindings = []
+    listed_of_bindings (RowBindingThen name bound rest) = listed bound ++ listed_of_bindings rest
+
+abbrev pub cast_use : ℕ → Use
+cast_use number = CastUse
+
+abbrev pub operator_use : PrimOp → RowTerms → Use
+operator_use operator operands = OperatorUse operator
+
+-- what a term with coercions uses, in order
+abbrev pub row_uses : RowTerm → List Use
+row_uses term = listed cast_use DynPartUse operator_use term
 
 -- the numbers of a term's casts are below this one
 abbrev mutual

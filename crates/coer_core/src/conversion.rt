@@ -6,11 +6,12 @@ ghost use Rattle.coer_core.specs.Conversion.{cast_views, converted, converted_al
 ghost use Rattle.coer_core.specs.Conversion.{converted_members};
 ghost use Rattle.coer_core.specs.Views.{row_bindings_of, row_members_of, row_term_of, row_terms_of};
 
-use crate::casts::Casts;
+use crate::casts::{Casts, number};
 use crate::terms::{CoerBinding, CoerBindings, CoerList, CoerMember, CoerMembers, CoerTerm};
 use coercion_norm::casts::Cast;
 use core_calc::terms::{Core, CoreBindings, CoreList, GroupMembers, VarIds};
 use grift_base::lists::OutOfMemory;
+use grift_base::made::boxed;
 use std::alloc::Global;
 
 // A term with the numbers of its casts, those that were not met before added to the casts. A program term has neither
@@ -18,77 +19,67 @@ use std::alloc::Global;
 #[cycle(conversion)]
 pub fn converted(alloc: Global, casts: &mut Casts, core: &Core) -> Result<CoerTerm, OutOfMemory>
     ensures term { IfOk result (λ t. row_term_of t ≡ (converted (cast_views casts.old) (term_of core.now)).term) }
-    ensures casts { OnOk result (cast_views casts.new ≡ (converted (cast_views casts.old) (term_of core.now)).casts) }
+    ensures casts { OnOk result
+        (cast_views casts.new ≡ (converted (cast_views casts.old) (term_of core.now)).casts) }
 {
-    match core {
-        Core::Int(n) => Ok(CoerTerm::Int(*n)),
-        Core::Bool(b) => Ok(CoerTerm::Bool(*b)),
-        Core::Unit | Core::Enter(..) | Core::Value(_) => Ok(CoerTerm::Unit),
-        Core::Var(name) => Ok(CoerTerm::Var(*name)),
+    let term = match core {
+        Core::Int(n) => CoerTerm::Int(*n),
+        Core::Bool(b) => CoerTerm::Bool(*b),
+        Core::Unit | Core::Enter(..) | Core::Value(_) => CoerTerm::Unit,
+        Core::Var(name) => CoerTerm::Var(*name),
         Core::Lambda(params, body, ty) => {
-            let body = converted(alloc, casts, body)?;
-            let params = copied(alloc, params)?;
-            Ok(CoerTerm::Lambda(params, boxed(alloc, body)?, *ty))
+            let body = part(alloc, casts, body)?;
+            CoerTerm::Lambda(copied(alloc, params)?, body, *ty)
         }
         Core::Group(members, body) => {
             let members = converted_members(alloc, casts, members)?;
-            let body = converted(alloc, casts, body)?;
-            Ok(CoerTerm::Group(members, boxed(alloc, body)?))
+            CoerTerm::Group(members, part(alloc, casts, body)?)
         }
         Core::Let(bindings, body) => {
             let bindings = converted_bindings(alloc, casts, bindings)?;
-            let body = converted(alloc, casts, body)?;
-            Ok(CoerTerm::Let(bindings, boxed(alloc, body)?))
+            CoerTerm::Let(bindings, part(alloc, casts, body)?)
         }
         Core::Call(function, arguments) => {
-            let function = converted(alloc, casts, function)?;
-            let arguments = converted_all(alloc, casts, arguments)?;
-            Ok(CoerTerm::Call(boxed(alloc, function)?, arguments))
+            let function = part(alloc, casts, function)?;
+            CoerTerm::Call(function, converted_all(alloc, casts, arguments)?)
         }
         Core::If(condition, on_true, on_false) => {
-            let condition = boxed(alloc, converted(alloc, casts, condition)?)?;
-            let on_true = boxed(alloc, converted(alloc, casts, on_true)?)?;
-            let on_false = boxed(alloc, converted(alloc, casts, on_false)?)?;
-            Ok(CoerTerm::If(condition, on_true, on_false))
+            let condition = part(alloc, casts, condition)?;
+            let on_true = part(alloc, casts, on_true)?;
+            CoerTerm::If(condition, on_true, part(alloc, casts, on_false)?)
         }
-        Core::Seq(terms) => {
-            let terms = converted_all(alloc, casts, terms)?;
-            Ok(CoerTerm::Seq(terms))
-        }
+        Core::Seq(terms) => CoerTerm::Seq(converted_all(alloc, casts, terms)?),
         Core::Cast(term, from, to, label) => {
-            let term = converted(alloc, casts, term)?;
+            let term = part(alloc, casts, term)?;
             let cast = Cast {
                 from: *from,
                 to: *to,
                 label: *label,
             };
-            let number = casts.number(cast)?;
-            Ok(CoerTerm::Coerce(boxed(alloc, term)?, number))
+            CoerTerm::Coerce(term, number(casts, cast)?)
         }
-        Core::Proj(term, k) => {
-            let term = converted(alloc, casts, term)?;
-            Ok(CoerTerm::Proj(boxed(alloc, term)?, *k))
-        }
+        Core::Proj(term, k) => CoerTerm::Proj(part(alloc, casts, term)?, *k),
         Core::ProjDyn(term, k, label) => {
-            let term = converted(alloc, casts, term)?;
-            Ok(CoerTerm::ProjDyn(boxed(alloc, term)?, *k, *label))
+            CoerTerm::ProjDyn(part(alloc, casts, term)?, *k, *label)
         }
-        Core::Tuple(parts) => {
-            let parts = converted_all(alloc, casts, parts)?;
-            Ok(CoerTerm::Tuple(parts))
-        }
+        Core::Tuple(parts) => CoerTerm::Tuple(converted_all(alloc, casts, parts)?),
         Core::Prim(operator, operands) => {
-            let operands = converted_all(alloc, casts, operands)?;
-            Ok(CoerTerm::Prim(*operator, operands))
+            CoerTerm::Prim(*operator, converted_all(alloc, casts, operands)?)
         }
-    }
+    };
+    Ok(term)
 }
 
-// A term in a box.
-fn boxed(alloc: Global, term: CoerTerm) -> Result<Box<CoerTerm>, OutOfMemory>
-    ensures { IfOk result (λ b. b.value ≡ term) }
+// The same in a box.
+#[cycle(conversion)]
+fn part(alloc: Global, casts: &mut Casts, core: &Core) -> Result<Box<CoerTerm>, OutOfMemory>
+    ensures term { IfOk result (λ b.
+        row_term_of b.value ≡ (converted (cast_views casts.old) (term_of core.now)).term) }
+    ensures casts { OnOk result
+        (cast_views casts.new ≡ (converted (cast_views casts.old) (term_of core.now)).casts) }
 {
-    Ok(Box::new(alloc, term)?)
+    let term = converted(alloc, casts, core)?;
+    boxed(alloc, term)
 }
 
 // The same names in a list of their own.
@@ -158,7 +149,8 @@ fn converted_bindings(
     ensures term { IfOk result (λ t.
         row_bindings_of t ≡ (converted_bindings (cast_views casts.old) (bindings_of bindings.now)).term) }
     ensures casts { OnOk result
-        (cast_views casts.new ≡ (converted_bindings (cast_views casts.old) (bindings_of bindings.now)).casts) }
+        (cast_views casts.new
+        ≡ (converted_bindings (cast_views casts.old) (bindings_of bindings.now)).casts) }
 {
     let mut bound = CoerBindings::new();
     let mut left = bindings;

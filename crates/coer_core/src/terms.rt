@@ -110,12 +110,26 @@ pub enum CoerList {
 
 /// A function of a group: its name, its parameters, its body and its type.
 #[cycle(coer)]
-#[derive(Drop)]
 pub struct CoerMember {
     pub name: VarId,
     pub params: VarIds,
     pub body: CoerTerm,
     pub ty: TypeId,
+}
+
+// By hand, so that each place where one goes is one call.
+impl Drop for CoerMember {
+    #[cycle(coer)]
+    fn drop(self) {
+        let CoerMember {
+            name: _,
+            params,
+            body,
+            ty: _,
+        } = self;
+        drop(params);
+        drop(body);
+    }
 }
 
 /// The functions of a group in order.
@@ -129,10 +143,18 @@ pub enum CoerMembers {
 
 /// A name and the term that it is bound to.
 #[cycle(coer)]
-#[derive(Drop)]
 pub struct CoerBinding {
     pub name: VarId,
     pub value: CoerTerm,
+}
+
+// By hand, so that each place where one goes is one call.
+impl Drop for CoerBinding {
+    #[cycle(coer)]
+    fn drop(self) {
+        let CoerBinding { name: _, value } = self;
+        drop(value);
+    }
 }
 
 /// Bindings in order.

@@ -3,7 +3,7 @@
 use Rattle.std.proofs.Common.{◌≡◌, ℕ, suc, ◌≤◌, max, List, arith}
 use Rattle.grift_base.specs.Types.{TypeRows}
 use Rattle.type_graph.specs.Trees.{height}
-use Rattle.coercion_norm.specs.Coercions.{Coercion, Id, Fail, Middle, Inject, Project}
+use Rattle.coercion_norm.specs.Coercions.{Coercion, Id, Middle, Inject, Project}
 use Rattle.coercion_norm.specs.Heights.{coercion_height, highest}
 use Rattle.coercion_norm.specs.Nodes.{Node, tree_of, trees}
 use Rattle.coercion_norm.specs.Normal.{is_flat, is_project}
@@ -26,36 +26,24 @@ module _ (types : TypeRows) (nodes : List Node) where
 
 -- how much a coercion has in front of its middle
 abbrev pub rank : Coercion → ℕ
-rank Id = 0
-rank (Fail label) = 0
-rank (Middle kind parts) = 0
 rank (Inject g kept) = 1
 rank (Project wanted label i) = 2
+rank _ = 0
 
 pub rank_most : (c : Coercion) → rank c ≤ 2
 rank_most Id = omega arith
-rank_most (Fail label) = omega arith
-rank_most (Middle kind parts) = omega arith
-rank_most (Inject g kept) = omega arith
-rank_most (Project wanted label i) = omega arith
+rank_most _ = omega arith
 
 pub rank_behind : (c : Coercion) → is_project c ≡ false → rank c ≤ 1
-rank_behind Id e = omega arith
-rank_behind (Fail label) e = omega arith
-rank_behind (Middle kind parts) e = omega arith
-rank_behind (Inject g kept) e = omega arith
 rank_behind (Project wanted label i) e = absurd (cc e)
+rank_behind _ e = omega arith
 
 pub rank_inner : (c : Coercion) → is_inner c ≡ true → rank c ≡ 0
-rank_inner Id e = omega arith
-rank_inner (Fail label) e = omega arith
-rank_inner (Middle kind parts) e = omega arith
 rank_inner (Inject g kept) e = absurd (cc e)
 rank_inner (Project wanted label i) e = absurd (cc e)
+rank_inner _ e = omega arith
 
 pub rank_flat : (c : Coercion) → is_flat c ≡ true → rank c ≡ 0
 rank_flat Id e = omega arith
-rank_flat (Fail label) e = absurd (cc e)
 rank_flat (Middle kind parts) e = omega arith
-rank_flat (Inject g kept) e = absurd (cc e)
-rank_flat (Project wanted label i) e = absurd (cc e)
+rank_flat _ e = absurd (cc e)

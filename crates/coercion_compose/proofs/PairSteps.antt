@@ -24,6 +24,21 @@ place_at [] k d within = absurd (omega arith)
 place_at (part ∷ parts) zero d within = refl
 place_at (part ∷ parts) (suc k) d within = place_at parts k d (omega arith)
 
+-- a part of a middle is there, and no higher than the parts are
+module _ (types : TypeRows) (old now : List Node) (before : PartsBefore old) (grows : Grows old now) (j : ℕ)
+    (parts : List CoercionId) (within : j < length parts)
+    (there : All (λ part. part < length old) (coercion_places parts)) (d : CoercionId) where
+  part_old : (get_or parts j d).0 < length old
+  part_old = part_at (λ part. part < length old) parts j d within there
+
+  part_low : high types now (get_or parts j d).0 ≤ highest (height types) (trees (tree_of old) (coercion_places parts))
+  part_low =
+      let many : length (coercion_places parts) ≡ length parts = length-map parts (λ (x : CoercionId). x.0) in
+      let low = part_no_higher (tree_of old) (height types) (coercion_places parts) j 0 (omega (arith, many)) in
+      subst (λ n. n ≤ highest (height types) (trees (tree_of old) (coercion_places parts)))
+      (sym (ap (coercion_height (height types)) (tree_kept old now before grows (get_or parts j d).0 part_old
+      ∙ ap (tree_of old) (place_at parts j d within)))) low
+
 module _ (types : TypeRows) (old now : List Node) (before : PartsBefore old) (grows : Grows old now)
     (firsts seconds : List CoercionId) (j : ℕ) (first_in : j < length firsts) (second_in : j < length seconds)
     (firsts_there : All (λ part. part < length old) (coercion_places firsts))
@@ -35,10 +50,10 @@ module _ (types : TypeRows) (old now : List Node) (before : PartsBefore old) (gr
   second = get_or seconds j e
 
   first_old : first.0 < length old
-  first_old = part_at (λ part. part < length old) firsts j d first_in firsts_there
+  first_old = part_old types old now before grows j firsts first_in firsts_there d
 
   second_old : second.0 < length old
-  second_old = part_at (λ part. part < length old) seconds j e second_in seconds_there
+  second_old = part_old types old now before grows j seconds second_in seconds_there e
 
   pub pair_there : (back : Bool) (pair : Pair) → pair ≡ part_pair back first second → IsPair now pair
   pair_there back pair is = subst (IsPair now) (sym is) (by back)
@@ -56,20 +71,10 @@ module _ (types : TypeRows) (old now : List Node) (before : PartsBefore old) (gr
           record { first_there = omega (arith, more, l); second_there = omega (arith, more, m) }
 
   first_low : high types now first.0 ≤ highest (height types) (trees (tree_of old) (coercion_places firsts))
-  first_low =
-      let many : length (coercion_places firsts) ≡ length firsts = length-map firsts (λ (x : CoercionId). x.0) in
-      let low = part_no_higher (tree_of old) (height types) (coercion_places firsts) j 0 (omega (arith, many)) in
-      subst (λ n. n ≤ highest (height types) (trees (tree_of old) (coercion_places firsts)))
-      (sym (ap (coercion_height (height types)) (tree_kept old now before grows first.0 first_old
-      ∙ ap (tree_of old) (place_at firsts j d first_in)))) low
+  first_low = part_low types old now before grows j firsts first_in firsts_there d
 
   second_low : high types now second.0 ≤ highest (height types) (trees (tree_of old) (coercion_places seconds))
-  second_low =
-      let many : length (coercion_places seconds) ≡ length seconds = length-map seconds (λ (x : CoercionId). x.0) in
-      let low = part_no_higher (tree_of old) (height types) (coercion_places seconds) j 0 (omega (arith, many)) in
-      subst (λ n. n ≤ highest (height types) (trees (tree_of old) (coercion_places seconds)))
-      (sym (ap (coercion_height (height types)) (tree_kept old now before grows second.0 second_old
-      ∙ ap (tree_of old) (place_at seconds j e second_in)))) low
+  second_low = part_low types old now before grows j seconds second_in seconds_there e
 
   pub pair_falls : (back : Bool) (pair : Pair) → pair ≡ part_pair back first second
       → 137438953472 * pair_high types now pair.first.0 pair.second.0 + 68719476736

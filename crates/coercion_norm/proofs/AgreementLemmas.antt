@@ -14,14 +14,9 @@ use Rattle.coercion_norm.specs.Composition.{coerce_whole, coerce_to, follow, com
 use Rattle.coercion_norm.proofs.OneDepth.{Joins, is_middle, follow_agrees}
 
 equal_heads_same : (h : TypeHead) → equal_heads h h ≡ true
-equal_heads_same IntHead = refl
-equal_heads_same BoolHead = refl
-equal_heads_same UnitHead = refl
-equal_heads_same DynHead = refl
 equal_heads_same (FunHead n) = eq-eqb n n refl
 equal_heads_same (TupleHead n) = eq-eqb n n refl
-equal_heads_same RefHead = refl
-equal_heads_same VectHead = refl
+equal_heads_same _ = refl
 
 -- ---- one depth of the coercion of a cast
 

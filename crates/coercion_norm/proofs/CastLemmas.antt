@@ -74,19 +74,14 @@ kind_width (RefRow content) FunKind wide e = absurd (cc e)
 kind_width (RefRow content) TupKind wide e = absurd (cc e)
 kind_width (RefRow content) VecKind wide e = absurd (cc e)
 kind_width (VectRow content) VecKind wide e = refl
-kind_width (VectRow content) FunKind wide e = absurd (cc e)
-kind_width (VectRow content) TupKind wide e = absurd (cc e)
-kind_width (VectRow content) RefKind wide e = absurd (cc e)
+kind_width (VectRow content) _ wide e = absurd (cc e)
 
 no_slots : (row : TypeRow) → kind_of row ≡ None → length (slots_of row) ≡ 0
 no_slots IntRow e = refl
 no_slots BoolRow e = refl
 no_slots UnitRow e = refl
 no_slots DynRow e = refl
-no_slots (FunRow parameters answer) e = absurd (cc e)
-no_slots (TupleRow parts) e = absurd (cc e)
-no_slots (RefRow content) e = absurd (cc e)
-no_slots (VectRow content) e = absurd (cc e)
+no_slots _ e = absurd (cc e)
 
 module _ (types : TypeRows) (table : IsOrderedTable types) where
   abbrev heights : AreHeights (rows_of types) (height types)

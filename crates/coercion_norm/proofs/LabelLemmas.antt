@@ -106,8 +106,7 @@ module _ (many : ℕ) (rows : ℕ → TypeRow) where
     of_after_inner Id d hc hd = hd
     of_after_inner (Fail label) d hc hd = hc
     of_after_inner (Middle kind parts) d hc hd = of_after_middle kind parts d hc hd
-    of_after_inner (Inject g kept) d hc hd = tt
-    of_after_inner (Project wanted label i) d hc hd = tt
+    of_after_inner _ d hc hd = tt
 
     module _ (coerce : ℕ → ℕ → ℕ → Coercion) (casts : CastsHaveLabels coerce) where
       of_after_inject : (g : Coercion) (kept : ℕ) (d : Coercion) → HasLabels many g → HasLabels many d

@@ -20,7 +20,6 @@ mod CastLemmas
 mod KnownCasts
 mod CompositionLemmas
 mod TextLemmas
-mod CastRowLemmas
 mod Objects
 mod TypePlacing
 mod PartWords

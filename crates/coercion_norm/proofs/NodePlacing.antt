@@ -54,9 +54,7 @@ few_node (ProjectNode wanted label i) w = omega arith
 
 middle_high : (kind : Kind) (high parts : ℕ) → high ≡ suc parts → HasHeight (middle_kind kind) high parts
 middle_high FunKind high parts e = e
-middle_high TupKind high parts e = e
-middle_high RefKind high parts e = e
-middle_high VecKind high parts e = e
+middle_high _ high parts e = e
 
 module _ (types : TypeRows) (table : NodeTable) (ordered : AreOrdered table.nodes) (fits : FitsTypes types table)
     (start j : ℕ) (words type_at coercion_at : List ℕ)

@@ -18,10 +18,7 @@ flat_middle kind parts = go (all_id parts)
 
 pub no_project : (c : Coercion) → is_project (final c) ≡ false
 no_project Id = refl
-no_project (Fail p) = refl
-no_project (Middle kind parts) = refl
-no_project (Inject g kept) = refl
-no_project (Project w p i) = refl
+no_project _ = refl
 
 module _ (next : Coercion → Coercion → Coercion) where
   pub flat_after_middle : (kind : Kind) (cs : Coercions) (d : Coercion) → is_flat d ≡ true →
@@ -127,10 +124,8 @@ module _ (rows : ℕ → TypeRow) where
 
     normal_after_inner : KeepsNormal (after_inner next)
     normal_after_inner Id d hc hd = hd
-    normal_after_inner (Fail p) d hc hd = tt
     normal_after_inner (Middle kind cs) d hc hd = normal_after_middle kind cs d hc hd
-    normal_after_inner (Inject g kept) d hc hd = tt
-    normal_after_inner (Project w p i) d hc hd = tt
+    normal_after_inner _ d hc hd = tt
 
     module _ (coerce : ℕ → ℕ → ℕ → Coercion) (casts : CastsAreNormal coerce) where
       normal_after_inject : (g : Coercion) (kept : ℕ) (d : Coercion) → IsNormal rows (Inject g kept) → IsNormal rows d →

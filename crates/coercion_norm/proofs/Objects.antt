@@ -107,23 +107,11 @@ type_count (VectRow content) wide = refl
 type_words : (memory : Telling) (own at count : ℕ) (row : TypeRow)
     → AreWanted memory own at (wanted_words (type_kind row) count)
 type_words memory own at count IntRow = tt
-type_words memory own at count BoolRow = tt
-type_words memory own at count UnitRow = tt
-type_words memory own at count DynRow = tt
-type_words memory own at count (FunRow parameters answer) = tt
-type_words memory own at count (TupleRow parts) = tt
-type_words memory own at count (RefRow content) = tt
-type_words memory own at count (VectRow content) = tt
+type_words memory own at count _ = tt
 
 type_high : (row : TypeRow) (high parts : ℕ) → HasHeight (type_kind row) high parts
 type_high IntRow high parts = tt
-type_high BoolRow high parts = tt
-type_high UnitRow high parts = tt
-type_high DynRow high parts = tt
-type_high (FunRow parameters answer) high parts = tt
-type_high (TupleRow others) high parts = tt
-type_high (RefRow content) high parts = tt
-type_high (VectRow content) high parts = tt
+type_high _ high parts = tt
 
 -- the object of a type is whole
 pub whole_type : (memory : Telling) (end at high : ℕ) (row : TypeRow) → HasWidth row

@@ -17,10 +17,7 @@ use Rattle.coercion_norm.proofs.PathLemmas.{clash-some, clash-none, one_head, re
 
 pub id_is : (c : Coercion) → is_id c ≡ true → c ≡ Id
 id_is Id e = refl
-id_is (Fail p) e = absurd (cc e)
-id_is (Middle kind parts) e = absurd (cc e)
-id_is (Inject g kept) e = absurd (cc e)
-id_is (Project wanted p i) e = absurd (cc e)
+id_is _ e = absurd (cc e)
 
 pub and_left : (a b : Bool) → (a && b) ≡ true → a ≡ true
 and_left true b e = refl
@@ -32,9 +29,7 @@ and_right false b e = absurd (cc e)
 
 pub same_kind_same : (kind : Kind) → same_kind kind kind ≡ true
 same_kind_same FunKind = refl
-same_kind_same TupKind = refl
-same_kind_same RefKind = refl
-same_kind_same VecKind = refl
+same_kind_same _ = refl
 
 -- the middle of parts is Id or the middle itself
 pub is_middle : (kind : Kind) (parts : Coercions) → IsMiddle kind parts (middle kind parts)

@@ -34,13 +34,7 @@ is_id_at nodes place node ordered e = ap is_id (tree_is nodes place node ordered
 pub is_other : (at : ℕ → Coercion) (node : CoercionNode) → (node ≡ IdCase → ⊥)
     → is_id (grown at (Some (node_of node))) ≡ false
 is_other at IdCase other = absurd (other refl)
-is_other at (FailCase label) other = refl
-is_other at (FunCase arguments answer) other = refl
-is_other at (TupCase parts) other = refl
-is_other at (RefCase read write) other = refl
-is_other at (VecCase read write) other = refl
-is_other at (InjectCase g kept) other = refl
-is_other at (ProjectCase wanted label i) other = refl
+is_other at _ other = refl
 
 module _ (at : ℕ → Coercion) where
   all_id_next : (parts : List CoercionId) (k : ℕ) (d : CoercionId) → k < length parts

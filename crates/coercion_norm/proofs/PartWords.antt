@@ -5,8 +5,8 @@ use Rattle.std.proofs.Common.{ap₂, ◌∙◌, arith, List, [], ◌∷◌, leng
 use Rattle.std.specs.Prelude.{slice_index, ◌==◌, if◌then◌else◌, ◌&&◌}
 use Rattle.std.proofs.lemmas.List.Elements.{All-head, All-tail}
 use Rattle.std.proofs.lemmas.Bool.{eqb-true}
-use Rattle.grift_base.specs.Types.{TypeRow, TypeRows, IntRow, BoolRow, UnitRow, DynRow, FunRow, TupleRow, RefRow}
-use Rattle.grift_base.specs.Types.{VectRow}
+use Rattle.grift_base.specs.Types.{TypeRow, TypeRows}
+use Rattle.grift_base.proofs.Public.{each_row}
 use Rattle.type_graph.specs.Trees.{height}
 use Rattle.object_layout.specs.declared.kinds.Kind.{Kind as ObjectKind}
 use Rattle.object_layout.specs.declared.kinds.Kind.TheVariants.{Fail as FailObject, Inject as InjectObject}
@@ -26,20 +26,12 @@ use Rattle.coercion_norm.proofs.Objects.{told_kind}
 -- ---- one word
 
 pub type_is_type : (row : TypeRow) → is_type (type_kind row) ≡ true
-type_is_type IntRow = refl
-type_is_type BoolRow = refl
-type_is_type UnitRow = refl
-type_is_type DynRow = refl
-type_is_type (FunRow parameters answer) = refl
-type_is_type (TupleRow parts) = refl
-type_is_type (RefRow content) = refl
-type_is_type (VectRow content) = refl
+type_is_type = each_row (λ row. is_type (type_kind row) ≡ true)
+    refl refl refl refl (λ _ _. refl) (λ _. refl) (λ _. refl) (λ _. refl)
 
 middle_is_coercion : (kind : Kind) → is_coercion (middle_kind kind) ≡ true
 middle_is_coercion FunKind = refl
-middle_is_coercion TupKind = refl
-middle_is_coercion RefKind = refl
-middle_is_coercion VecKind = refl
+middle_is_coercion _ = refl
 
 module _ (memory : Telling) (types : TypeRows) where
   -- the word of a type is its address
@@ -116,9 +108,7 @@ module _ (memory : Telling) (types : TypeRows) where
 
 pub middle_wanted : (kind : Kind) (count : ℕ) → wanted_words (middle_kind kind) count ≡ replicate count WantedCoercion
 middle_wanted FunKind count = refl
-middle_wanted TupKind count = refl
-middle_wanted RefKind count = refl
-middle_wanted VecKind count = refl
+middle_wanted _ count = refl
 
 pub count_of_trees : (at : ℕ → Coercion) (parts : List ℕ) → count_of (trees at parts) ≡ length parts
 count_of_trees at [] = refl

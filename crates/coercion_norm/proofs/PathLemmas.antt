@@ -5,6 +5,7 @@ use Rattle.std.proofs.lemmas.Bool.{eqb-true}
 use Rattle.grift_base.specs.Types.{TypeRow, IntRow, BoolRow, UnitRow, DynRow, FunRow, TupleRow, RefRow, VectRow}
 use Rattle.grift_base.specs.Types.{TypeHead, IntHead, BoolHead, UnitHead, DynHead, FunHead, TupleHead, RefHead}
 use Rattle.grift_base.specs.Types.{VectHead, equal_heads, is_dyn, same_head, head_of}
+use Rattle.grift_base.proofs.Public.{each_row}
 use Rattle.coercion_norm.specs.Coercions.{Kind, FunKind, TupKind, RefKind, VecKind, kind_of, slots_of}
 use Rattle.coercion_norm.specs.Paths.{Steps, Stop, Edge, last_type, joined, turned, along, in_front, solid, first_clash}
 
@@ -52,12 +53,12 @@ no_both false e h = absurd (cc e)
 -- ---- heads
 
 pub heads_exact : (h g : TypeHead) → equal_heads h g ≡ true → h ≡ g
+heads_exact (FunHead m) (FunHead n) e = ap FunHead (eqb-true m n e)
+heads_exact (TupleHead m) (TupleHead n) e = ap TupleHead (eqb-true m n e)
 heads_exact IntHead IntHead e = refl
 heads_exact BoolHead BoolHead e = refl
 heads_exact UnitHead UnitHead e = refl
 heads_exact DynHead DynHead e = refl
-heads_exact (FunHead m) (FunHead n) e = ap FunHead (eqb-true m n e)
-heads_exact (TupleHead m) (TupleHead n) e = ap TupleHead (eqb-true m n e)
 heads_exact RefHead RefHead e = refl
 heads_exact VectHead VectHead e = refl
 heads_exact _ _ e = absurd (cc e)
@@ -84,14 +85,8 @@ width_by_head VectHead = 2
 
 kind_is : (row : TypeRow) → kind_of row ≡ kind_by_head (head_of row)
 unfolding kind_by_head
-kind_is IntRow = refl
-kind_is BoolRow = refl
-kind_is UnitRow = refl
-kind_is DynRow = refl
-kind_is (FunRow parameters answer) = refl
-kind_is (TupleRow parts) = refl
-kind_is (RefRow content) = refl
-kind_is (VectRow content) = refl
+kind_is = each_row (λ row. kind_of row ≡ kind_by_head (head_of row))
+    refl refl refl refl (λ _ _. refl) (λ _. refl) (λ _. refl) (λ _. refl)
 
 one_more : (ps : List ℕ) (a : ℕ) → length (ps ++ a ∷ []) ≡ suc (length ps)
 one_more ps a = length-append ps (a ∷ []) ∙ omega arith
@@ -103,9 +98,7 @@ width_is BoolRow = refl
 width_is UnitRow = refl
 width_is DynRow = refl
 width_is (FunRow parameters answer) = one_more parameters answer
-width_is (TupleRow parts) = refl
-width_is (RefRow content) = refl
-width_is (VectRow content) = refl
+width_is _ = refl
 
 pub same_kinds : (row other : TypeRow) → head_of row ≡ head_of other → kind_of row ≡ kind_of other
 same_kinds row other e = kind_is row ∙ ap kind_by_head e ∙ sym (kind_is other)

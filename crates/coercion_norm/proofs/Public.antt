@@ -4,6 +4,7 @@ pub use Rattle.coercion_norm.proofs.PathLemmas.{last-joined, joined_joined, join
 pub use Rattle.coercion_norm.proofs.PathLemmas.{last-turned, last-along, along-joined, solid-joined, clash-some}
 pub use Rattle.coercion_norm.proofs.PathLemmas.{clash-none, one_head, heads_exact, same_kinds, same_widths, no_both}
 pub use Rattle.coercion_norm.proofs.OneDepth.{id_is, and_left, and_right, is_middle}
+pub use Rattle.coercion_norm.proofs.PartWords.{type_is_type}
 pub use Rattle.coercion_norm.proofs.SixCases.{only_dyn, first_dyn, clash, last_dyn, base, middle_case}
 pub use Rattle.coercion_norm.proofs.MiddleParts.{parts_stand}
 pub use Rattle.coercion_norm.proofs.AgreementLemmas.{id_stands, coerce_stands, compose_joins}

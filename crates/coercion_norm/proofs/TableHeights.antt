@@ -29,10 +29,7 @@ no_parts IntRow e = refl
 no_parts BoolRow e = refl
 no_parts UnitRow e = refl
 no_parts DynRow e = refl
-no_parts (FunRow parameters answer) e = absurd (cc e)
-no_parts (TupleRow parts) e = absurd (cc e)
-no_parts (RefRow content) e = absurd (cc e)
-no_parts (VectRow content) e = absurd (cc e)
+no_parts _ e = absurd (cc e)
 
 above_all_within : (count : ℕ → ℕ) (parts : List ℕ) (n : ℕ) → All (λ part. count part ≤ n) parts
     → above_all count parts ≤ suc n

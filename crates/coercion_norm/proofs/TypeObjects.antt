@@ -30,10 +30,7 @@ dyn_is IntRow e = absurd (cc e)
 dyn_is BoolRow e = absurd (cc e)
 dyn_is UnitRow e = absurd (cc e)
 dyn_is DynRow e = refl
-dyn_is (FunRow parameters answer) e = absurd (cc e)
-dyn_is (TupleRow parts) e = absurd (cc e)
-dyn_is (RefRow content) e = absurd (cc e)
-dyn_is (VectRow content) e = absurd (cc e)
+dyn_is _ e = absurd (cc e)
 
 module _ (types : TypeRows) (table : IsOrderedTable types) where
   found : (type : ℕ) → type < length types → (row : TypeRow) × (row_at types type ≡ Some row)

@@ -32,10 +32,7 @@ is_end (CoercionThen c rest) = false
 
 abbrev pub is_id : Coercion → Bool
 is_id Id = true
-is_id (Fail p) = false
-is_id (Middle kind parts) = false
-is_id (Inject g kept) = false
-is_id (Project wanted p i) = false
+is_id _ = false
 
 abbrev pub all_id : Coercions → Bool
 all_id NoCoercions = true

@@ -7,17 +7,12 @@ use Rattle.coercion_norm.specs.Coercions.{CoercionThen, all_id}
 -- Id or a middle
 abbrev pub is_flat : Coercion → Bool
 is_flat Id = true
-is_flat (Fail label) = false
 is_flat (Middle kind parts) = true
-is_flat (Inject g kept) = false
-is_flat (Project wanted label i) = false
+is_flat _ = false
 
 abbrev pub is_project : Coercion → Bool
-is_project Id = false
-is_project (Fail label) = false
-is_project (Middle kind parts) = false
-is_project (Inject g kept) = false
 is_project (Project wanted label i) = true
+is_project _ = false
 
 module _ (rows : ℕ → TypeRow) where
   abbrev mutual

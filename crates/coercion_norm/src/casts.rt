@@ -16,6 +16,7 @@ use crate::nodes::{CoercionId, CoercionNode};
 use crate::tables::CoercionTable;
 use grift_base::lists::OutOfMemory;
 use grift_base::places::{LabelId, TypeId};
+use grift_base::tables::Entry;
 use std::alloc::Global;
 use std::collections::HashMap;
 use type_graph::tables::TypeTable;
@@ -26,6 +27,20 @@ pub struct Cast {
     pub from: TypeId,
     pub to: TypeId,
     pub label: LabelId,
+}
+
+impl Entry for Cast {
+    ghost use Rattle.std.proofs.Common.{rules};
+
+    type Id = u32;
+
+    ghost number = { λ id. id };
+
+    ghost exact = { Prim.search rules };
+
+    fn id(place: u32) -> u32 {
+        place
+    }
 }
 
 /// The coercion of a cast. It stands for the path of the two types, and is no higher than the higher of them. Casts of

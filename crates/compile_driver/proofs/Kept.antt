@@ -2,8 +2,7 @@
 use Rattle.std.proofs.Common.{◌≡◌, ℕ, ◌+◌, ◌*◌, ◌%◌, ◌<◌, ◌≤◌, ◌^◌, true, List, [], ◌∷◌, ◌++◌, length, Some, None, refl}
 use Rattle.std.proofs.Common.{sym, ap, ◌∙◌, subst, append-nil, arith}
 use Rattle.std.specs.Prelude.{All, ◌==◌, ◌&&◌, nat_le, if◌then◌else◌, slice_index}
-use Rattle.grift_base.specs.Types.{TypeRow, TypeRows, IntRow, BoolRow, UnitRow, DynRow, FunRow, TupleRow, RefRow}
-use Rattle.grift_base.specs.Types.{VectRow}
+use Rattle.grift_base.specs.Types.{TypeRows}
 use Rattle.grift_base.specs.declared.places.Pos.{Pos}
 use Rattle.grift_base.specs.declared.words.Statics.{Statics}
 use Rattle.machine_words.specs.Memory.{first_address, load_bytes}
@@ -11,7 +10,6 @@ use Rattle.rv_machine.specs.Start.{IsRegionSize, IsStackSize, fresh_world}
 use Rattle.rv_machine.specs.State.{State}
 use Rattle.machine_words.proofs.Public.{load_same}
 use Rattle.object_layout.specs.declared.wholes.Area.TheVariants.{Statics as InStatics}
-use Rattle.object_layout.specs.Kinds.{is_type}
 use Rattle.object_layout.specs.Wholes.{Telling, IsRow}
 use Rattle.low_ir.specs.Procedures.{Proc}
 use Rattle.low_ir.specs.Run.{LowShown}
@@ -23,6 +21,7 @@ use Rattle.coercion_norm.specs.StaticObjects.{Tells, static_headers, type_header
 use Rattle.coercion_norm.specs.Statics.{AreStatics, objects_of}
 use Rattle.coercion_norm.specs.declared.cast_rows.CastRow.{CastRow}
 use Rattle.object_layout.proofs.Public.{number_of_kind}
+use Rattle.coercion_norm.proofs.Public.{type_is_type}
 use Rattle.rt_cast.specs.Objects.{HasWord, Holds, HoldsWords}
 use Rattle.rt_cast.specs.States.{Filled, Heap}
 use Rattle.rt_cast.proofs.Public.{objects_fill_the_region}
@@ -33,16 +32,6 @@ use Rattle.compile_driver.specs.Space.{IsStored, KeepsStorage, told_by}
 use Rattle.compile_driver.proofs.Matching.{Fit, fit_match, starts, statics_fit, words_hold}
 use Rattle.compile_driver.proofs.Starting.{are_placed, layout, setting, start}
 use Rattle.compile_driver.proofs.Storing.{storage_is_so}
-
-type_is : (row : TypeRow) → is_type (type_kind row) ≡ true
-type_is IntRow = refl
-type_is BoolRow = refl
-type_is UnitRow = refl
-type_is DynRow = refl
-type_is (FunRow parameters answer) = refl
-type_is (TupleRow parts) = refl
-type_is (RefRow content) = refl
-type_is (VectRow content) = refl
 
 -- words that stand one after another are told so, where each is told
 tells_all : (T : Telling) (m : ℕ → ℕ) (end at : ℕ) (words : List ℕ)
@@ -125,7 +114,7 @@ module _ {image : List ℕ} {procs : List Proc} {entry : ℕ} {statics : Statics
                   kind = type_kind (rows_of types type);
                   there = placed.type_starts (told_by s) tells type less;
                   kind_is = number_of_kind (type_kind (rows_of types type));
-                  type = type_is (rows_of types type);
+                  type = type_is_type (rows_of types type);
                 })
                 types begin.layout.code
                 (subst (IsRow (told_by s) InStatics first_address sh)

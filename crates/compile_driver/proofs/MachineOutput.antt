@@ -1,22 +1,6 @@
--- The machine never takes output back, and its stops are told alike by every reading.
-use Rattle.std.proofs.Common.{
-  ◌≡◌,
-  ℕ,
-  ℤ,
-  zero,
-  suc,
-  ◌+◌,
-  ◌%◌,
-  ◌==◌,
-  ◌&&◌,
-  Bool,
-  true,
-  false,
-  List,
-  Option,
-  Some,
-  option_map,
-}
+-- The machine never takes output back nor moves its layout, and its stops are told alike by every reading.
+use Rattle.std.proofs.Common.{◌≡◌, ℕ, ℤ, zero, suc, ◌+◌, ◌%◌, ◌==◌, ◌&&◌, Bool, true, false, List, Option, Some}
+use Rattle.std.proofs.Common.{option_map}
 use Rattle.std.proofs.Common.{if◌then◌else◌, None, length, refl, ap, nat_le, nat_lt, slice_get}
 use Rattle.grift_base.specs.EnvironmentCall.{environment_call, Called}
 use Rattle.grift_base.specs.Reading.{next_number, after_reading}
@@ -29,11 +13,8 @@ use Rattle.run_laws.specs.Runs.{Ending, IsPrefix}
 use Rattle.run_laws.specs.Machines.{Go, Stop, OnlyAddsOutput, run, seen, and_then, steps}
 use Rattle.run_laws.proofs.Public.{prefix_refl}
 use Rattle.rv_isa.specs.declared.inst.Inst.{Inst}
-use Rattle.rv_isa.specs.declared.inst.Inst.TheVariants.{Lui, Auipc, Jal, Jalr, Beq, Bne, Blt, Bge, Bltu, Bgeu, Lb, Lh}
-use Rattle.rv_isa.specs.declared.inst.Inst.TheVariants.{Lw, Ld, Lbu, Lhu, Lwu, Sb, Sh, Sw, Sd, Addi, Slti, Sltiu, Xori}
-use Rattle.rv_isa.specs.declared.inst.Inst.TheVariants.{Ori, Andi, Slli, Srli, Srai, Add, Sub, Sll, Slt, Sltu, Xor, Srl}
-use Rattle.rv_isa.specs.declared.inst.Inst.TheVariants.{Sra, Or, And, Addiw, Slliw, Srliw, Sraiw, Addw, Subw, Sllw}
-use Rattle.rv_isa.specs.declared.inst.Inst.TheVariants.{Srlw, Sraw, Fence, Ecall, Ebreak}
+use Rattle.rv_isa.specs.declared.inst.Inst.TheVariants.{Jal, Jalr, Beq, Bne, Blt, Bge, Bltu, Bgeu, Lb, Lh, Lw, Ld, Lbu}
+use Rattle.rv_isa.specs.declared.inst.Inst.TheVariants.{Lhu, Lwu, Sb, Sh, Sw, Sd, Ecall, Ebreak}
 use Rattle.rv_isa.specs.Decoding.{decode_of}
 use Rattle.rv_machine.specs.Mach.{machine_by, step_by, run_of, onward}
 use Rattle.machine_words.specs.Memory.{first_address, load_bytes, store_bytes}
@@ -47,12 +28,16 @@ use Rattle.rv_machine.specs.Turn.{blames, comes_to, called, next_pc}
 use Rattle.machine_words.specs.Arithmetic.{plus, sign_extend}
 use Rattle.std.specs.Int.{Width, w8, w16, w32, w64, byte_len}
 
--- ---- output
+-- ---- output and layout
 
--- a turn from this output goes on to output that begins with it
-abbrev Adds : List ℕ → Turn → Type 0
-Adds output (Next t) = IsPrefix output t.world.output
-Adds output (Stops halt) = Unit {0}
+-- a turn goes on to a state with the same layout, and to output that begins with what there was
+pub record Onward (s t : State) : Type 0 where
+  pub layout : t.layout ≡ s.layout
+  pub output : IsPrefix s.world.output t.world.output
+
+abbrev pub Keeps : State → Turn → Type 0
+Keeps s (Next t) = Onward s t
+Keeps s (Stops halt) = Unit {0}
 
 same : (xs : List ℕ) → IsPrefix xs xs
 same xs = prefix_refl xs xs refl
@@ -80,129 +65,100 @@ call_adds number a b labels w =
     (call_if w.output (number == 6) _ _ (same w.output)
     (call_if w.output (number == 7) _ _ read (same w.output))))))))
 
-comes_adds : (effect : EnvEffect) (w : WorldState) (s : State) → IsPrefix s.world.output w.output
-    → Adds s.world.output (comes_to effect w s)
-comes_adds (GoesOn a b) w s h = h
-comes_adds (Answers answer) w s h = tt
-comes_adds (Blamed label) w s h = blamed (slice_get s.layout.labels label)
+comes_keeps : (effect : EnvEffect) (w : WorldState) (s : State) → IsPrefix s.world.output w.output
+    → Keeps s (comes_to effect w s)
+comes_keeps (GoesOn a b) w s h = record { layout = refl; output = h }
+comes_keeps (Answers answer) w s h = tt
+comes_keeps (Blamed label) w s h = blamed (slice_get s.layout.labels label)
   where
-    blamed : (label : Option Pos) → Adds s.world.output (blames label s)
+    blamed : (label : Option Pos) → Keeps s (blames label s)
     blamed None = tt
     blamed (Some label) = tt
-comes_adds (Trapped trap) w s h = tt
-comes_adds RegionOut w s h = tt
-comes_adds StackOut w s h = tt
-comes_adds Refused w s h = tt
-comes_adds OutOfMemory w s h = tt
+comes_keeps (Trapped trap) w s h = tt
+comes_keeps RegionOut w s h = tt
+comes_keeps StackOut w s h = tt
+comes_keeps Refused w s h = tt
+comes_keeps OutOfMemory w s h = tt
 
 -- a turn that goes on where a test holds
-test_adds : (s t : State) (fault : ℕ → MachineFault) (b : Bool) → t.world ≡ s.world
-    → Adds s.world.output (if b then Next t else goes_wrong fault s)
-test_adds s t fault true e = prefix_refl s.world.output t.world.output (ap (λ w. w.output) e)
-test_adds s t fault false e = tt
+test_keeps : (s t : State) (fault : ℕ → MachineFault) (b : Bool) → t.layout ≡ s.layout → t.world ≡ s.world
+    → Keeps s (if b then Next t else goes_wrong fault s)
+test_keeps s t fault true l e =
+    record { layout = l; output = prefix_refl s.world.output t.world.output (ap (λ w. w.output) e) }
+test_keeps s t fault false l e = tt
 
-tests_add : (s t : State) (a b : Bool) → t.world ≡ s.world
-    → Adds s.world.output (if a then (if b then Next t else goes_wrong BadAddress s) else goes_wrong Misaligned s)
-tests_add s t true b e = test_adds s t BadAddress b e
-tests_add s t false b e = tt
+tests_keep : (s t : State) (a b : Bool) → t.layout ≡ s.layout → t.world ≡ s.world
+    → Keeps s (if a then (if b then Next t else goes_wrong BadAddress s) else goes_wrong Misaligned s)
+tests_keep s t true b l e = test_keeps s t BadAddress b l e
+tests_keep s t false b l e = tt
 
-branch_adds : (taken : Bool) (imm : ℤ) (s : State) → Adds s.world.output (branch_if taken imm s)
-branch_adds true imm s =
-    test_adds s (record s { pc = plus s.pc imm }) Misaligned (plus s.pc imm % 4 == 0) refl
-branch_adds false imm s = same s.world.output
+branch_keeps : (taken : Bool) (imm : ℤ) (s : State) → Keeps s (branch_if taken imm s)
+branch_keeps true imm s =
+    test_keeps s (record s { pc = plus s.pc imm }) Misaligned (plus s.pc imm % 4 == 0) refl refl
+branch_keeps false imm s = record { layout = refl; output = same s.world.output }
 
-jump_adds : (rd target : ℕ) (s : State) → Adds s.world.output (jump_and_link rd target s)
-jump_adds rd target s =
-    test_adds s (record s { regs = set_reg rd (next_pc s) s.regs; pc = target }) Misaligned (target % 4 == 0) refl
+jump_keeps : (rd target : ℕ) (s : State) → Keeps s (jump_and_link rd target s)
+jump_keeps rd target s =
+    test_keeps s (record s { regs = set_reg rd (next_pc s) s.regs; pc = target }) Misaligned (target % 4 == 0) refl refl
 
-load_adds : (signed : Bool) (w : Width) (rd at : ℕ) (s : State) → Adds s.world.output (load_into signed w rd at s)
-load_adds signed w rd at s =
+load_keeps : (signed : Bool) (w : Width) (rd at : ℕ) (s : State) → Keeps s (load_into signed w rd at s)
+load_keeps signed w rd at s =
     let n = load_bytes (byte_len w) s.memory at in
-    tests_add s (record s {
+    tests_keep s (record s {
       regs = set_reg rd (if signed then sign_extend w n else n) s.regs;
       pc = next_pc s;
-    }) (at % byte_len w == 0) (nat_le first_address at && nat_le (at + byte_len w) s.layout.end) refl
+    }) (at % byte_len w == 0) (nat_le first_address at && nat_le (at + byte_len w) s.layout.end) refl refl
 
-store_adds : (w : Width) (word at : ℕ) (s : State) → Adds s.world.output (store_from w word at s)
-store_adds w word at s =
-    tests_add s (record s { memory = store_bytes (byte_len w) s.memory at word; pc = next_pc s })
-    (at % byte_len w == 0) (nat_le s.layout.region at && nat_le (at + byte_len w) s.layout.end) refl
+store_keeps : (w : Width) (word at : ℕ) (s : State) → Keeps s (store_from w word at s)
+store_keeps w word at s =
+    tests_keep s (record s { memory = store_bytes (byte_len w) s.memory at word; pc = next_pc s })
+    (at % byte_len w == 0) (nat_le s.layout.region at && nat_le (at + byte_len w) s.layout.end) refl refl
 
-act_adds : (i : Inst) (s : State) → Adds s.world.output (act i s)
-act_adds (Lui rd n) s = same s.world.output
-act_adds (Auipc rd n) s = same s.world.output
-act_adds (Addi rd a imm) s = same s.world.output
-act_adds (Slti rd a imm) s = same s.world.output
-act_adds (Sltiu rd a imm) s = same s.world.output
-act_adds (Xori rd a imm) s = same s.world.output
-act_adds (Ori rd a imm) s = same s.world.output
-act_adds (Andi rd a imm) s = same s.world.output
-act_adds (Slli rd a n) s = same s.world.output
-act_adds (Srli rd a n) s = same s.world.output
-act_adds (Srai rd a n) s = same s.world.output
-act_adds (Add rd a b) s = same s.world.output
-act_adds (Sub rd a b) s = same s.world.output
-act_adds (Sll rd a b) s = same s.world.output
-act_adds (Slt rd a b) s = same s.world.output
-act_adds (Sltu rd a b) s = same s.world.output
-act_adds (Xor rd a b) s = same s.world.output
-act_adds (Srl rd a b) s = same s.world.output
-act_adds (Sra rd a b) s = same s.world.output
-act_adds (Or rd a b) s = same s.world.output
-act_adds (And rd a b) s = same s.world.output
-act_adds (Addiw rd a imm) s = same s.world.output
-act_adds (Slliw rd a n) s = same s.world.output
-act_adds (Srliw rd a n) s = same s.world.output
-act_adds (Sraiw rd a n) s = same s.world.output
-act_adds (Addw rd a b) s = same s.world.output
-act_adds (Subw rd a b) s = same s.world.output
-act_adds (Sllw rd a b) s = same s.world.output
-act_adds (Srlw rd a b) s = same s.world.output
-act_adds (Sraw rd a b) s = same s.world.output
-act_adds (Fence rd a imm) s = same s.world.output
-act_adds (Jal rd imm) s = jump_adds rd _ s
-act_adds (Jalr rd a imm) s = jump_adds rd _ s
-act_adds (Beq a b imm) s = branch_adds _ imm s
-act_adds (Bne a b imm) s = branch_adds _ imm s
-act_adds (Blt a b imm) s = branch_adds _ imm s
-act_adds (Bge a b imm) s = branch_adds _ imm s
-act_adds (Bltu a b imm) s = branch_adds _ imm s
-act_adds (Bgeu a b imm) s = branch_adds _ imm s
-act_adds (Lb rd a imm) s = load_adds true w8 rd (plus (reg s a) imm) s
-act_adds (Lh rd a imm) s = load_adds true w16 rd (plus (reg s a) imm) s
-act_adds (Lw rd a imm) s = load_adds true w32 rd (plus (reg s a) imm) s
-act_adds (Ld rd a imm) s = load_adds false w64 rd (plus (reg s a) imm) s
-act_adds (Lbu rd a imm) s = load_adds false w8 rd (plus (reg s a) imm) s
-act_adds (Lhu rd a imm) s = load_adds false w16 rd (plus (reg s a) imm) s
-act_adds (Lwu rd a imm) s = load_adds false w32 rd (plus (reg s a) imm) s
-act_adds (Sb b a imm) s = store_adds w8 (reg s b) (plus (reg s a) imm) s
-act_adds (Sh b a imm) s = store_adds w16 (reg s b) (plus (reg s a) imm) s
-act_adds (Sw b a imm) s = store_adds w32 (reg s b) (plus (reg s a) imm) s
-act_adds (Sd b a imm) s = store_adds w64 (reg s b) (plus (reg s a) imm) s
-act_adds Ecall s =
-    comes_adds (called s).effect (called s).world s
+-- what is left at the end sets a register, or nothing
+act_keeps : (i : Inst) (s : State) → Keeps s (act i s)
+act_keeps (Jal rd imm) s = jump_keeps rd _ s
+act_keeps (Jalr rd a imm) s = jump_keeps rd _ s
+act_keeps (Beq a b imm) s = branch_keeps _ imm s
+act_keeps (Bne a b imm) s = branch_keeps _ imm s
+act_keeps (Blt a b imm) s = branch_keeps _ imm s
+act_keeps (Bge a b imm) s = branch_keeps _ imm s
+act_keeps (Bltu a b imm) s = branch_keeps _ imm s
+act_keeps (Bgeu a b imm) s = branch_keeps _ imm s
+act_keeps (Lb rd a imm) s = load_keeps true w8 rd (plus (reg s a) imm) s
+act_keeps (Lh rd a imm) s = load_keeps true w16 rd (plus (reg s a) imm) s
+act_keeps (Lw rd a imm) s = load_keeps true w32 rd (plus (reg s a) imm) s
+act_keeps (Ld rd a imm) s = load_keeps false w64 rd (plus (reg s a) imm) s
+act_keeps (Lbu rd a imm) s = load_keeps false w8 rd (plus (reg s a) imm) s
+act_keeps (Lhu rd a imm) s = load_keeps false w16 rd (plus (reg s a) imm) s
+act_keeps (Lwu rd a imm) s = load_keeps false w32 rd (plus (reg s a) imm) s
+act_keeps (Sb b a imm) s = store_keeps w8 (reg s b) (plus (reg s a) imm) s
+act_keeps (Sh b a imm) s = store_keeps w16 (reg s b) (plus (reg s a) imm) s
+act_keeps (Sw b a imm) s = store_keeps w32 (reg s b) (plus (reg s a) imm) s
+act_keeps (Sd b a imm) s = store_keeps w64 (reg s b) (plus (reg s a) imm) s
+act_keeps Ecall s =
+    comes_keeps (called s).effect (called s).world s
     (call_adds (reg s 17) (reg s 10) (reg s 11) (length s.layout.labels) s.world)
-act_adds Ebreak s = tt
+act_keeps Ebreak s = tt
+act_keeps i s = record { layout = refl; output = same s.world.output }
 
-some_adds : (o : Option Inst) (s : State) → Adds s.world.output (act_if o s)
-some_adds None s = tt
-some_adds (Some i) s = act_adds i s
+some_keeps : (o : Option Inst) (s : State) → Keeps s (act_if o s)
+some_keeps None s = tt
+some_keeps (Some i) s = act_keeps i s
 
-turn_adds : (s : State) → Adds s.world.output (turn_of s)
+pub turn_keeps : (s : State) → Keeps s (turn_of s)
 unfolding turn_of
-turn_adds s = by (nat_le s.layout.code s.pc && nat_lt s.pc s.layout.region)
+turn_keeps s = by (nat_le s.layout.code s.pc && nat_lt s.pc s.layout.region)
   where
-    by : (b : Bool) → Adds s.world.output
-        (if b then act_if (decode_of (load_bytes 4 s.memory s.pc)) s else goes_wrong BadAddress s)
-    by true = some_adds (decode_of (load_bytes 4 s.memory s.pc)) s
+    by : (b : Bool) → Keeps s (if b then act_if (decode_of (load_bytes 4 s.memory s.pc)) s else goes_wrong BadAddress s)
+    by true = some_keeps (decode_of (load_bytes 4 s.memory s.pc)) s
     by false = tt
 
 pub machine_adds_output : {V : Type 0} (reading : Halt → Ending V) → OnlyAddsOutput (machine_by reading)
-machine_adds_output reading s = by (turn_of s) (turn_adds s)
+machine_adds_output reading s = by (turn_of s) (turn_keeps s)
   where
-    by : (turn : Turn) → Adds s.world.output turn
+    by : (turn : Turn) → Keeps s turn
         → IsPrefix s.world.output (Rattle.run_laws.specs.Machines.landing (step_by reading s turn)).world.output
-    by (Next t) h = h
+    by (Next t) h = h.output
     by (Stops halt) h = same s.world.output
 
 -- ---- stops

@@ -20,7 +20,7 @@ use Rattle.object_layout.specs.Kinds.{kind_number as number_of, kind_of, is_free
 use Rattle.object_layout.specs.Reports.{header_behind, is_proxy, is_some_proxy}
 use Rattle.object_layout.specs.Wholes.{Telling, header_at, height_of, coercion_height, height_behind, highest}
 use Rattle.object_layout.specs.Wholes.{AreWanted, Fills, HasHeight, IsAddress, IsNth, IsRow, IsWanted, IsWhole}
-use Rattle.object_layout.specs.Wholes.{StartsAt}
+use Rattle.object_layout.specs.Wholes.{StartsAt, wanted_height}
 use Rattle.object_layout.proofs.Public.{an_object_of_a_row_is_whole, fills_few, fills_same, number_of_kind}
 use Rattle.object_layout.proofs.Public.{is_the_proxy, free_wanted, free_no_proxy}
 use Rattle.coercion_norm.specs.declared.middles.MiddleKind.{MiddleKind}
@@ -106,61 +106,32 @@ word_low : (l : Layout) (before : List Object) (w y : ℕ) → CoercionWord l be
 word_low l before w y (IdWord z e) = omega (arith, e)
 word_low l before w y (ObjectWord kind count ws there c lt) = lt
 
-shape_of : (l : Layout) (before : List Object) (o : Object) → TypesStand l → IsWholeObject l before o → Shape o
-shape_of l before o types (WholeFail label e) = record {
-  kind = FailObject;
-  height = 0;
-  count = 1;
-  head = ap header_of e;
-  long = ap bytes_of e;
-  small = omega arith;
-}
-shape_of l before o types (WholeMiddle kind y ws e width lt highs) = record {
-  kind = middle_kind kind;
-  height = suc y;
+-- of one whose words never change
+fixed : (o : Object) (kind : Kind) (height : ℕ) (ws : List ℕ)
+    → o ≡ Fixed (header (number_of kind) height (length ws)) ws → height < 65536 → Shape o
+fixed o kind height ws e small = record {
+  kind = kind;
+  height = height;
   count = length ws;
   head = ap header_of e;
   long = ap bytes_of e;
-  small = lt;
+  small = small;
 }
+
+shape_of : (l : Layout) (before : List Object) (o : Object) → TypesStand l → IsWholeObject l before o → Shape o
+shape_of l before o types (WholeFail label e) = fixed o FailObject 0 (label ∷ []) e (omega arith)
+shape_of l before o types (WholeMiddle kind y ws e width lt highs) = fixed o (middle_kind kind) (suc y) ws e lt
 shape_of l before o types (WholeInject wg wt y type e word held) =
     let lt = word_low l before wg y word in
     let tall = types.low type in
-    record {
-      kind = InjectObject;
-      height = max y (height_in l type);
-      count = 2;
-      head = ap header_of e;
-      long = ap bytes_of e;
-      small = omega (arith, lt, tall);
-    }
+    fixed o InjectObject (max y (height_in l type)) (wg ∷ wt ∷ []) e (omega (arith, lt, tall))
 shape_of l before o types (WholeProject wt label wi y type e held word) =
     let lt = word_low l before wi y word in
     let tall = types.low type in
-    record {
-      kind = ProjectObject;
-      height = max (height_in l type) y;
-      count = 3;
-      head = ap header_of e;
-      long = ap bytes_of e;
-      small = omega (arith, lt, tall);
-    }
-shape_of l before o types (WholeProxy wa wc kind y ws e solid there lower) = record {
-  kind = Proxy;
-  height = 0;
-  count = 2;
-  head = ap header_of e;
-  long = ap bytes_of e;
-  small = omega arith;
-}
-shape_of l before o types (WholeDyn wt wx type e held lower) = record {
-  kind = Dyn;
-  height = 0;
-  count = 2;
-  head = ap header_of e;
-  long = ap bytes_of e;
-  small = omega arith;
-}
+    fixed o ProjectObject (max (height_in l type) y) (wt ∷ label ∷ wi ∷ []) e (omega (arith, lt, tall))
+shape_of l before o types (WholeProxy wa wc kind y ws e solid there lower) =
+    fixed o Proxy 0 (wa ∷ wc ∷ []) e (omega arith)
+shape_of l before o types (WholeDyn wt wx type e held lower) = fixed o Dyn 0 (wt ∷ wx ∷ []) e (omega arith)
 shape_of l before o types (WholeOther kind count e long free allowed) = record {
   kind = kind;
   height = 0;
@@ -599,67 +570,31 @@ module _ (setting : Setting) (l : Layout) (objects : List Object) (heap : Heap) 
       wanted : AreWanted T own at list
       high : highest T at list ≡ highest U at list
 
+    word_moves : (own at : ℕ) (wanted : Wanted) (lead : LeadsAt at wanted) → IsWanted U own wanted lead.word
+        → IsWanted T own wanted lead.word × (wanted_height T wanted at ≡ wanted_height U wanted at)
+    word_moves own at Anything lead w = (tt, refl)
+    word_moves own at Target lead w = (address_moves _ own lead.word lead.same w, refl)
+    word_moves own at Middle lead w = (address_moves _ own lead.word lead.same w, refl)
+    word_moves own at TypeAddress lead w = (
+      address_moves _ own lead.word lead.same w,
+      ap (height_behind T) lead.told_both.over
+          ∙ (ap height_of (head_moves lead.word lead.same) ∙ sym (ap (height_behind U) lead.told_both.under)),
+    )
+    word_moves own at Coercion lead w =
+        let one = coercion_moves own lead.word lead.same w in (
+          one.0,
+          ap (coercion_height T) lead.told_both.over ∙ (one.1 ∙ sym (ap (coercion_height U) lead.told_both.under)),
+        )
+
     moves : (own at : ℕ) (list : List Wanted) → LeadAll at list → AreWanted U own at list → Moved own at list
     moves own at [] all w = record { wanted = tt; high = refl }
-    moves own at (Anything ∷ list) all w =
-        let rest = moves own (at + 8) list all.1 w.1 in
-        record {
-          wanted = ((all.0.word, all.0.told_both.over, tt), rest.wanted);
-          high = ap (max 0) rest.high;
-        }
-    moves own at (Target ∷ list) all w =
+    moves own at (wanted ∷ list) all w =
         let rest = moves own (at + 8) list all.1 w.1 in
         let same : w.0.0 ≡ all.0.word = same_some w.0.0 all.0.word (sym w.0.1 ∙ all.0.told_both.under) in
-        record {
-          wanted = (
-            (
-              all.0.word,
-              all.0.told_both.over,
-              address_moves _ own all.0.word all.0.same (subst (IsAddress U _ own) same w.0.2),
-            ),
-            rest.wanted,
-          );
-          high = ap (max 0) rest.high;
-        }
-    moves own at (Middle ∷ list) all w =
-        let rest = moves own (at + 8) list all.1 w.1 in
-        let same : w.0.0 ≡ all.0.word = same_some w.0.0 all.0.word (sym w.0.1 ∙ all.0.told_both.under) in
-        record {
-          wanted = (
-            (
-              all.0.word,
-              all.0.told_both.over,
-              address_moves _ own all.0.word all.0.same (subst (IsAddress U _ own) same w.0.2),
-            ),
-            rest.wanted,
-          );
-          high = ap (max 0) rest.high;
-        }
-    moves own at (TypeAddress ∷ list) all w =
-        let rest = moves own (at + 8) list all.1 w.1 in
-        let same : w.0.0 ≡ all.0.word = same_some w.0.0 all.0.word (sym w.0.1 ∙ all.0.told_both.under) in
-        record {
-          wanted = (
-            (
-              all.0.word,
-              all.0.told_both.over,
-              address_moves _ own all.0.word all.0.same (subst (IsAddress U _ own) same w.0.2),
-            ),
-            rest.wanted,
-          );
-          high =
-              ap₂ max (ap (height_behind T) all.0.told_both.over ∙ (ap height_of (head_moves all.0.word all.0.same)
-              ∙ sym (ap (height_behind U) all.0.told_both.under))) rest.high;
-        }
-    moves own at (Coercion ∷ list) all w =
-        let rest = moves own (at + 8) list all.1 w.1 in
-        let same : w.0.0 ≡ all.0.word = same_some w.0.0 all.0.word (sym w.0.1 ∙ all.0.told_both.under) in
-        let one = coercion_moves own all.0.word all.0.same (subst (IsWanted U own Coercion) same w.0.2) in
+        let one = word_moves own at wanted all.0 (subst (IsWanted U own wanted) same w.0.2) in
         record {
           wanted = ((all.0.word, all.0.told_both.over, one.0), rest.wanted);
-          high =
-              ap₂ max (ap (coercion_height T) all.0.told_both.over ∙ (one.1
-              ∙ sym (ap (coercion_height U) all.0.told_both.under))) rest.high;
+          high = ap₂ max one.1 rest.high;
         }
 
     whole_moves : (at : ℕ) (h : Header) → AtPlace at h → IsWhole U Region heap.alloc at h

@@ -29,13 +29,28 @@ use type_graph::tables::TypeTable;
 
 /// A source that was compiled: its image, its types, its program with all casts, the greatest height of the coercions
 /// of its casts, and how many forms it has at top level.
-#[derive(Drop)]
 pub struct Compiled {
     pub image: Image,
     pub types: TypeTable,
     pub elab: Elab,
     pub tallest: u32,
     pub forms: u32,
+}
+
+// By hand, so that each place where one goes is one call.
+impl Drop for Compiled {
+    fn drop(self) {
+        let Compiled {
+            image,
+            types,
+            elab,
+            tallest: _,
+            forms: _,
+        } = self;
+        drop(image);
+        drop(types);
+        drop(elab);
+    }
 }
 
 // A program over words, and the greatest height of the coercions of its casts.

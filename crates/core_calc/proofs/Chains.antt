@@ -35,6 +35,13 @@ pub none_next : {A B : Type 0} (next : A → Option B) → and_then None next �
 unfolding and_then
 none_next next = refl
 
+-- what is one line after another where a test stops both is so whatever the test says
+unless_stopped : {A B : Type 0} (b : Bool) (whole : Option B) (first : Option A) (next : A → Option B) →
+    whole ≡ and_then first next → cond b None whole ≡ and_then (cond b None first) next
+unfolding and_then
+unless_stopped true whole first next e = refl
+unless_stopped false whole first next e = e
+
 -- ---- names, one after another
 
 names_by : (seen : List ℕ) (name : ℕ) (rest : List ℕ) (b : Bool) → list_any (nat_eq name) seen ≡ b →
@@ -45,14 +52,8 @@ pub names_append : (seen xs ys : List ℕ) →
     with_names seen (xs ++ ys) ≡ and_then (with_names seen xs) (λ s. with_names s ys)
 unfolding and_then
 names_append seen [] ys = refl
-names_append seen (x ∷ xs) ys = by_test (names_append (seen ++ x ∷ []) xs ys) (list_any (nat_eq x) seen)
-  where
-    by_test : with_names (seen ++ x ∷ []) (xs ++ ys) ≡
-        and_then (with_names (seen ++ x ∷ []) xs) (λ s. with_names s ys) → (b : Bool) →
-        cond b None (with_names (seen ++ x ∷ []) (xs ++ ys)) ≡
-        and_then (cond b None (with_names (seen ++ x ∷ []) xs)) (λ s. with_names s ys)
-    by_test behind true = refl
-    by_test behind false = behind
+names_append seen (x ∷ xs) ys =
+    unless_stopped (list_any (nat_eq x) seen) _ (with_names (seen ++ x ∷ []) xs) _ (names_append (seen ++ x ∷ []) xs ys)
 
 -- where the first names are new, the others are added to what there is then
 pub names_then : (seen middle xs ys : List ℕ) → with_names seen xs ≡ Some middle →
@@ -94,14 +95,8 @@ pub bound_append : (context a b : Context) →
 unfolding and_then
 bound_append context [] b = refl
 bound_append context (entry ∷ a) b =
-    by_entry (bound_append (context ++ entry ∷ []) a b) (is_some (entry_of entry.0 context))
-  where
-    by_entry : with_bound (context ++ entry ∷ []) (a ++ b) ≡
-        and_then (with_bound (context ++ entry ∷ []) a) (λ inner. with_bound inner b) → (c : Bool) →
-        cond c None (with_bound (context ++ entry ∷ []) (a ++ b)) ≡
-        and_then (cond c None (with_bound (context ++ entry ∷ []) a)) (λ inner. with_bound inner b)
-    by_entry behind true = refl
-    by_entry behind false = behind
+    unless_stopped (is_some (entry_of entry.0 context)) _ (with_bound (context ++ entry ∷ []) a) _
+    (bound_append (context ++ entry ∷ []) a b)
 
 pub bound_then : (context middle a b : Context) → with_bound context a ≡ Some middle →
     with_bound context (a ++ b) ≡ with_bound middle b
@@ -233,6 +228,16 @@ pub front_more : {A : Type 0} (done : List A) (a : A) (o : Option (List A)) →
 unfolding and_then
 front_more done a (Some rest) = ap Some (sym (append_assoc done (a ∷ []) rest))
 front_more done a None = refl
+
+-- one more is read, and stands behind what is done
+pub front_read : {A B : Type 0} (make : B → A) (done pushed : List A) (b : B) (first : Option B)
+    (rest whole : Option (List A)) → first ≡ Some b → pushed ≡ done ++ make b ∷ [] →
+    in_front done (and_then first (λ b. and_then rest (λ others. Some (make b ∷ others)))) ≡ whole →
+    in_front pushed rest ≡ whole
+unfolding and_then
+front_read make done pushed b first rest whole e more same =
+    ap (λ front. in_front front rest) more ∙ sym (front_more done (make b) rest)
+    ∙ sym (ap (λ o. in_front done (and_then o (λ b. and_then rest (λ others. Some (make b ∷ others))))) e) ∙ same
 
 pub ruleset chain_steps = (
   there_next,

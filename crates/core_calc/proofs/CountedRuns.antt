@@ -8,7 +8,7 @@ use Rattle.std.specs.Fmt.{digits}
 use Rattle.run_laws.specs.Runs.{Verdict as EndsWith}
 use Rattle.grift_base.specs.Types.{TypeRows, IntRow, BoolRow, UnitRow, DynRow, FunRow, TupleRow, RefRow, VectRow}
 use Rattle.grift_base.specs.declared.places.Pos.{Pos}
-use Rattle.grift_base.specs.declared.operators.PrimOp.TheVariants.{Add, Sub, Mul, Quot, Eq, PrintInt, ReadInt, MakeBox}
+use Rattle.grift_base.specs.declared.operators.PrimOp.TheVariants.{Add, Mul, Quot, PrintInt, ReadInt, MakeBox}
 use Rattle.grift_base.specs.declared.operators.PrimOp.TheVariants.{Unbox, BoxSet, MakeVector, VectorRef, VectorSet}
 use Rattle.grift_base.specs.declared.operators.PrimOp.TheVariants.{VectorLength}
 use Rattle.grift_base.specs.declared.verdicts.AnswerKind.TheVariants.{Int, Bool as Truth, Function, Boxed}
@@ -18,7 +18,7 @@ use Rattle.grift_base.specs.declared.verdicts.Verdict.TheVariants.{Answer as Ans
 use Rattle.core_calc.specs.Terms.{Term, Members, IntLit, BoolLit, Var, Lambda, Group, Call, If, Cast, Proj, ProjDyn}
 use Rattle.core_calc.specs.Terms.{Tuple, Prim, NoTerms, NoMembers, MemberThen}
 use Rattle.core_calc.specs.Calculus.{answer, calc}
-use Rattle.core_calc.proofs.ExampleTerms.{int, seq, one, two, three, let_one}
+use Rattle.core_calc.proofs.ExampleTerms.{int, seq, one, two, three, let_one, even_and_odd}
 
 -- ---- how the runs are written
 
@@ -317,20 +317,11 @@ let_hides_member = (refl, refl, refl)
 let_hides_let : EndsAfter groups [] (let_one 0 (int 1) (let_one 0 (int 2) (Var 0))) 2 (number 2) []
 let_hides_let = (refl, refl, refl)
 
-abbrev counting_down : Term → ℕ → ℕ → Term
-counting_down at_zero parameter other =
-    If (Prim Eq (two (Var parameter) (int 0))) at_zero (Call (Var other) (one (Prim Sub (two (Var parameter) (int 1)))))
-
-abbrev even_and_odd : Members
-even_and_odd =
-    MemberThen 0 (2 ∷ []) (counting_down (BoolLit true) 2 1) 5
-    (MemberThen 1 (3 ∷ []) (counting_down (BoolLit false) 3 0) 5 NoMembers)
-
 -- even of 3, by two functions that call each other
 -- 1 the group
 -- 2 to 6, 7 to 11 and 12 to 16, of 3, 2 and 1: entered, the body, it isn't 0, so the other call, of one less
 -- 17 odd is entered with 0; 18 the body; 19 it is 0; 20 #f
-even_of_three : EndsAfter groups [] (Group even_and_odd (Call (Var 0) (one (int 3)))) 20
+even_of_three : EndsAfter groups [] (Group (even_and_odd 5) (Call (Var 0) (one (int 3)))) 20
     (AnswerVerdict (answer Truth (pos 0))) []
 unfolding int_wrap
 even_of_three = (refl, refl, refl)

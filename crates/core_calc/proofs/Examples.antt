@@ -7,7 +7,7 @@ use Rattle.run_laws.specs.Runs.{Ending, Wrong, Moment}
 use Rattle.run_laws.specs.Runs.{Verdict as EndsWith}
 use Rattle.grift_base.specs.Types.{TypeRows, IntRow, BoolRow, UnitRow, DynRow, FunRow, TupleRow, RefRow, VectRow}
 use Rattle.grift_base.specs.declared.places.Pos.{Pos}
-use Rattle.grift_base.specs.declared.operators.PrimOp.TheVariants.{Add, Sub, Quot, Rem, Eq, PrintInt, Newline, MakeBox}
+use Rattle.grift_base.specs.declared.operators.PrimOp.TheVariants.{Add, Quot, Rem, PrintInt, Newline, MakeBox}
 use Rattle.grift_base.specs.declared.operators.PrimOp.TheVariants.{Unbox, BoxSet, MakeVector, VectorRef, VectorSet}
 use Rattle.grift_base.specs.declared.operators.PrimOp.TheVariants.{VectorLength}
 use Rattle.grift_base.specs.declared.verdicts.AnswerKind.{AnswerKind}
@@ -16,10 +16,10 @@ use Rattle.grift_base.specs.declared.verdicts.Trap.TheVariants.{ZeroDivisor, Ind
 use Rattle.grift_base.specs.declared.verdicts.Verdict.{Verdict}
 use Rattle.grift_base.specs.declared.verdicts.Verdict.TheVariants.{Answer as AnswerVerdict, Blame, Trap as TrapVerdict}
 use Rattle.std.specs.Prelude.{ℤ}
-use Rattle.core_calc.specs.Terms.{Term, Members, IntLit, BoolLit, Var, Lambda, Group, Call, Enter, If, Cast, Proj}
-use Rattle.core_calc.specs.Terms.{ProjDyn, Tuple, Prim, NoTerms, NoMembers, MemberThen}
+use Rattle.core_calc.specs.Terms.{Term, IntLit, BoolLit, Var, Lambda, Group, Call, Enter, If, Cast, Proj}
+use Rattle.core_calc.specs.Terms.{ProjDyn, Tuple, Prim, NoTerms}
 use Rattle.core_calc.specs.Calculus.{answer, CalcState, calc}
-use Rattle.core_calc.proofs.ExampleTerms.{int, seq, one, two, three, let_one}
+use Rattle.core_calc.proofs.ExampleTerms.{int, seq, one, two, three, let_one, even_and_odd}
 
 -- ---- how the examples are written
 
@@ -127,17 +127,8 @@ parameter_hides = refl
 
 -- (letrec ([even (lambda ([n : Int]) : Bool (if (= n 0) #t (odd (- n 1))))] [odd (lambda ([n : Int]) : Bool (if (= n 0)
 -- #f (even (- n 1))))]) (even 3))
-abbrev counting_down : Term → ℕ → ℕ → Term
-counting_down at_zero parameter other =
-    If (Prim Eq (two (Var parameter) (int 0))) at_zero (Call (Var other) (one (Prim Sub (two (Var parameter) (int 1)))))
-
-abbrev even_and_odd : Members
-even_and_odd =
-    MemberThen 0 (2 ∷ []) (counting_down (BoolLit true) 2 1) 4
-    (MemberThen 1 (3 ∷ []) (counting_down (BoolLit false) 3 0) 4 NoMembers)
-
 group_calls : (after (IntRow ∷ BoolRow ∷ UnitRow ∷ DynRow ∷ FunRow (0 ∷ []) 1 ∷ []) [] 30
-    (Group even_and_odd (Call (Var 0) (one (int 3))))).ending ≡ answers Truth (pos 0)
+    (Group (even_and_odd 4) (Call (Var 0) (one (int 3))))).ending ≡ answers Truth (pos 0)
 unfolding int_wrap
 group_calls = refl
 

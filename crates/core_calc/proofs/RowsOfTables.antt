@@ -25,13 +25,7 @@ first_false true b e f = absurd (false_is_not_true (sym e ∙ f))
 
 pub row_is_dyn : (row : TypeRow) → is_dyn row ≡ true → row ≡ DynRow
 row_is_dyn DynRow e = refl
-row_is_dyn IntRow e = absurd (false_is_not_true e)
-row_is_dyn BoolRow e = absurd (false_is_not_true e)
-row_is_dyn UnitRow e = absurd (false_is_not_true e)
-row_is_dyn (FunRow parameters answer) e = absurd (false_is_not_true e)
-row_is_dyn (TupleRow parts) e = absurd (false_is_not_true e)
-row_is_dyn (RefRow content) e = absurd (false_is_not_true e)
-row_is_dyn (VectRow content) e = absurd (false_is_not_true e)
+row_is_dyn _ e = absurd (false_is_not_true e)
 
 -- rows with equal heads are both base types or both not, and both Dyn or both not
 pub same_kind : (row other : TypeRow) → same_head row other ≡ true → (is_base row ≡ is_base other) ×

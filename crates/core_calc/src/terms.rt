@@ -127,12 +127,26 @@ pub enum CoreList {
 
 /// A function of a group: its name, its parameters, its body and its type.
 #[cycle(core)]
-#[derive(Drop)]
 pub struct GroupMember {
     pub name: VarId,
     pub params: VarIds,
     pub body: Core,
     pub ty: TypeId,
+}
+
+// By hand, so that each place where one goes is one call.
+impl Drop for GroupMember {
+    #[cycle(core)]
+    fn drop(self) {
+        let GroupMember {
+            name: _,
+            params,
+            body,
+            ty: _,
+        } = self;
+        drop(params);
+        drop(body);
+    }
 }
 
 /// The functions of a group in order.
@@ -146,10 +160,18 @@ pub enum GroupMembers {
 
 /// A name and the term that it is bound to.
 #[cycle(core)]
-#[derive(Drop)]
 pub struct CoreBinding {
     pub name: VarId,
     pub value: Core,
+}
+
+// By hand, so that each place where one goes is one call.
+impl Drop for CoreBinding {
+    #[cycle(core)]
+    fn drop(self) {
+        let CoreBinding { name: _, value } = self;
+        drop(value);
+    }
 }
 
 /// Bindings in order.

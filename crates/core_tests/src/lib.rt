@@ -3,14 +3,4 @@
 #![tactic(auto)]
 
 #[cfg(test)]
-mod closures;
-#[cfg(test)]
-mod coercions;
-#[cfg(test)]
-mod procedures;
-#[cfg(test)]
-mod samples;
-#[cfg(test)]
-mod terms;
-#[cfg(test)]
-mod typing;
+mod tests;

@@ -11,7 +11,6 @@ use grift_base::places::TypeId;
 
 /// A procedure: how many parameters it takes, how many names it has captured, how many functions its group has, its
 /// place among these, and its body. The procedure that a program begins with belongs to no group.
-#[derive(Drop)]
 pub struct FlatProc {
     pub params: u32,
     pub captured: u32,
@@ -20,15 +19,40 @@ pub struct FlatProc {
     pub body: FlatBody,
 }
 
+// By hand, so that each place where one goes is one call.
+impl Drop for FlatProc {
+    fn drop(self) {
+        let FlatProc {
+            params: _,
+            captured: _,
+            group: _,
+            place: _,
+            body,
+        } = self;
+        drop(body);
+    }
+}
+
 /// Procedures by their numbers.
 pub type FlatProcs = Items<FlatProc>;
 
 /// A program: its procedures, the number of the one that it begins with, and the type of its answer.
-#[derive(Drop)]
 pub struct FlatProgram {
     pub procs: FlatProcs,
     pub entry: u32,
     pub answer: TypeId,
+}
+
+// By hand, so that each place where one goes is one call.
+impl Drop for FlatProgram {
+    fn drop(self) {
+        let FlatProgram {
+            procs,
+            entry: _,
+            answer: _,
+        } = self;
+        drop(procs);
+    }
 }
 
 impl FlatProgram {

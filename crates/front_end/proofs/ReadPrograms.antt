@@ -1,6 +1,5 @@
--- What is known of the s-expressions that a text reads as: integers have 64 bits, and no more than 200 lists are open
--- at once.
-use Rattle.std.proofs.Common.{◌≡◌, ◌+◌, ℕ, ℤ, pos, negsuc, Bool, true, false, List, refl, ap, arith}
+-- What is known of the s-expressions that a text reads as: integers have 64 bits.
+use Rattle.std.proofs.Common.{◌≡◌, ℕ, ℤ, pos, negsuc, Bool, true, false, List, refl, arith}
 use Rattle.std.proofs.Common.{subst}
 use Rattle.std.specs.Prelude.{◌^◌, if◌then◌else◌, bytes_eq, codes}
 use Rattle.std.specs.Str.Parse.{signed_digits_value}
@@ -9,7 +8,7 @@ use Rattle.std.specs.Int.{w64}
 use Rattle.std.specs.Int.RustNames.{FitsSigned}
 use Rattle.grift_base.specs.Numbers.{is_integer, fits_in_64_bits}
 use Rattle.sexpr_reader.specs.Datum.{Datum, Datums, integer, truth, symbol, leaf_datum, list_datum, no_datums}
-use Rattle.sexpr_reader.specs.Datum.{datum_then, depth, depth_of}
+use Rattle.sexpr_reader.specs.Datum.{datum_then}
 use Rattle.sexpr_reader.specs.Token.{Token, Lexeme, open_bracket, close_bracket, atom, hash_atom, quote, other}
 use Rattle.sexpr_reader.specs.Meaning.{meaning, integer_meaning}
 use Rattle.sexpr_reader.specs.Meaning.{begins_like_number}
@@ -21,7 +20,6 @@ use Rattle.surface_syntax.specs.declared.words.Mark.TheVariants.{Reserved, Free}
 use Rattle.surface_syntax.specs.Words.{mark_of}
 use Rattle.surface_syntax.specs.Marked.{Sexpr, Sexprs, number, truth_value, word, name, list, end, ◌▹◌, marked}
 use Rattle.surface_syntax.specs.Marked.{all_marked, marked_symbol}
-use Rattle.surface_syntax.proofs.Public.{brackets, brackets_of}
 
 -- each integer has 64 bits
 abbrev mutual
@@ -35,23 +33,6 @@ abbrev mutual
   pub AllFit : Sexprs → Type 0
   AllFit end = Unit {0}
   AllFit (s ▹ rest) = NumbersFit s × AllFit rest
-
--- ---- brackets
-
-symbol_brackets : (p : _) (x : List ℕ) (m : Mark) → brackets (marked_symbol p x m) ≡ 0
-symbol_brackets p x (Reserved w) = refl
-symbol_brackets p x (Free t) = refl
-
-mutual
-  brackets_are : (d : Datum) → brackets (marked d) ≡ depth d
-  brackets_are (leaf_datum p (integer n)) = refl
-  brackets_are (leaf_datum p (truth b)) = refl
-  brackets_are (leaf_datum p (symbol x)) = symbol_brackets p x (mark_of x)
-  brackets_are (list_datum p ds) = ap (λ n. 1 + n) (brackets_of_are ds)
-
-  pub brackets_of_are : (ds : Datums) → brackets_of (all_marked ds) ≡ depth_of ds
-  brackets_of_are no_datums = refl
-  brackets_of_are (datum_then d ds) = let a = brackets_are d in let b = brackets_of_are ds in omega arith
 
 -- ---- integers
 

@@ -43,8 +43,8 @@ use Rattle.cast_insert.specs.Operators.{operands_of}
 use Rattle.cast_insert.specs.Programs.{HasTypeWidths, HaveTypeWidths, how_many_types, depth_of, depth_of_all}
 use Rattle.cast_insert.specs.Programs.{IsWrittenType, MayBeWritten, AreSourceParams, IsSource, IsSourceLambda}
 use Rattle.cast_insert.specs.Programs.{AreSources, IsSourceBody, AreSourceBindings, AreSourceMembers}
-use Rattle.surface_syntax.proofs.Public.{brackets, brackets_of}
-use Rattle.front_end.proofs.ReadPrograms.{brackets_of_are, NumbersFit, AllFit, all_fit}
+use Rattle.surface_syntax.proofs.Public.{brackets, brackets_of, brackets_of_are}
+use Rattle.front_end.proofs.ReadPrograms.{NumbersFit, AllFit, all_fit}
 
 -- ---- types
 

@@ -3,8 +3,4 @@
 #![tactic(auto)]
 
 #[cfg(test)]
-mod elaborations;
-#[cfg(test)]
-mod forms;
-#[cfg(test)]
-mod words;
+mod tests;

@@ -11,6 +11,7 @@ pub mod refusals;
 pub mod shelves;
 pub mod sinks;
 pub mod sizes;
+pub mod tables;
 pub mod verdicts;
 pub mod words;
 pub mod worlds;

@@ -54,62 +54,48 @@ pub enum RefusalKind {
 }
 
 impl RefusalKind {
+    // The number and the name of this kind.
+    fn row(self) -> (u8, &'static str)
+        ensures number { result.0 ≡ refusal_number self }
+        ensures text { result.1.now ≡ refusal_text self }
+    {
+        match self {
+            RefusalKind::BadByte => (1, "bad-byte"),
+            RefusalKind::Unclosed => (2, "unclosed"),
+            RefusalKind::Unopened => (3, "unopened"),
+            RefusalKind::NumberRange => (4, "number-range"),
+            RefusalKind::TooDeep => (5, "too-deep"),
+            RefusalKind::Empty => (6, "empty"),
+            RefusalKind::NotInProfile => (7, "not-in-profile"),
+            RefusalKind::BadForm => (8, "bad-form"),
+            RefusalKind::RepeatedName => (9, "repeated-name"),
+            RefusalKind::TooWide => (10, "too-wide"),
+            RefusalKind::TooManyForms => (11, "too-many-forms"),
+            RefusalKind::ReservedName => (12, "reserved-name"),
+            RefusalKind::Unbound => (13, "unbound"),
+            RefusalKind::NotConsistent => (14, "not-consistent"),
+            RefusalKind::NotFunction => (15, "not-function"),
+            RefusalKind::WrongCount => (16, "wrong-count"),
+            RefusalKind::NotTuple => (17, "not-tuple"),
+            RefusalKind::NoSuchPart => (18, "no-such-part"),
+            RefusalKind::NotRef => (19, "not-ref"),
+            RefusalKind::NotVector => (20, "not-vector"),
+            RefusalKind::TypeTooLarge => (21, "type-too-large"),
+        }
+    }
+
     /// The number of this kind, from 1, in the order in which the kinds are declared.
     pub fn number(self) -> u8
         ensures { result ≡ refusal_number self }
     {
-        match self {
-            RefusalKind::BadByte => 1,
-            RefusalKind::Unclosed => 2,
-            RefusalKind::Unopened => 3,
-            RefusalKind::NumberRange => 4,
-            RefusalKind::TooDeep => 5,
-            RefusalKind::Empty => 6,
-            RefusalKind::NotInProfile => 7,
-            RefusalKind::BadForm => 8,
-            RefusalKind::RepeatedName => 9,
-            RefusalKind::TooWide => 10,
-            RefusalKind::TooManyForms => 11,
-            RefusalKind::ReservedName => 12,
-            RefusalKind::Unbound => 13,
-            RefusalKind::NotConsistent => 14,
-            RefusalKind::NotFunction => 15,
-            RefusalKind::WrongCount => 16,
-            RefusalKind::NotTuple => 17,
-            RefusalKind::NoSuchPart => 18,
-            RefusalKind::NotRef => 19,
-            RefusalKind::NotVector => 20,
-            RefusalKind::TypeTooLarge => 21,
-        }
+        self.row().0
     }
 
     /// The name of this kind, as a line for the user has it.
     pub fn text(self) -> &'static str
         ensures { result.now ≡ refusal_text self }
     {
-        match self {
-            RefusalKind::BadByte => "bad-byte",
-            RefusalKind::Unclosed => "unclosed",
-            RefusalKind::Unopened => "unopened",
-            RefusalKind::NumberRange => "number-range",
-            RefusalKind::TooDeep => "too-deep",
-            RefusalKind::Empty => "empty",
-            RefusalKind::NotInProfile => "not-in-profile",
-            RefusalKind::BadForm => "bad-form",
-            RefusalKind::RepeatedName => "repeated-name",
-            RefusalKind::TooWide => "too-wide",
-            RefusalKind::TooManyForms => "too-many-forms",
-            RefusalKind::ReservedName => "reserved-name",
-            RefusalKind::Unbound => "unbound",
-            RefusalKind::NotConsistent => "not-consistent",
-            RefusalKind::NotFunction => "not-function",
-            RefusalKind::WrongCount => "wrong-count",
-            RefusalKind::NotTuple => "not-tuple",
-            RefusalKind::NoSuchPart => "no-such-part",
-            RefusalKind::NotRef => "not-ref",
-            RefusalKind::NotVector => "not-vector",
-            RefusalKind::TypeTooLarge => "type-too-large",
-        }
+        self.row().1
     }
 }
 

@@ -27,29 +27,32 @@ pub enum Trap {
 }
 
 impl Trap {
+    // The number and the name of this trap.
+    fn row(self) -> (u8, &'static str)
+        ensures number { result.0 ≡ trap_number self }
+        ensures text { result.1.now ≡ trap_text self }
+    {
+        match self {
+            Trap::ZeroDivisor => (1, "zero-divisor"),
+            Trap::Index => (2, "index"),
+            Trap::Length => (3, "length"),
+            Trap::Input => (4, "input"),
+        }
+    }
+
     /// The number by which a program tells this trap to its environment.
     pub fn number(self) -> u8
         ensures value { result ≡ trap_number self }
         ensures call { traps result ≡ Trapped self }
     {
-        match self {
-            Trap::ZeroDivisor => 1,
-            Trap::Index => 2,
-            Trap::Length => 3,
-            Trap::Input => 4,
-        }
+        self.row().0
     }
 
     /// The name of this trap, as the line for the user has it.
     pub fn text(self) -> &'static str
         ensures { result.now ≡ trap_text self }
     {
-        match self {
-            Trap::ZeroDivisor => "zero-divisor",
-            Trap::Index => "index",
-            Trap::Length => "length",
-            Trap::Input => "input",
-        }
+        self.row().1
     }
 }
 

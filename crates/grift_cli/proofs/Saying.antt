@@ -145,11 +145,11 @@ pub says_load_fault : (call : CallSeen) (command : Command) (file : File) (fault
     → IsCommand call.words command → file_of command ≡ Some file → PutsNothing call
     → LoadsFiles file (input_of command) (Err fault) call.shelf → Says (load_report fault) call
 says_load_fault call command file ShelfFailed is of p loads =
-    record { command = command; words = is; file = file; file_is = of; not_loaded = loads; nothing = p }
+    record { command = command; words = is; file = file; file_is = of; ends_so = loads; nothing = p }
 says_load_fault call command file ShelfTooLong is of p loads =
-    record { command = command; words = is; file = file; file_is = of; too_long = loads; nothing = p }
+    record { command = command; words = is; file = file; file_is = of; ends_so = loads; nothing = p }
 says_load_fault call command file ShelfMemory is of p loads =
-    inl (record { command = command; words = is; file = file; file_is = of; lacks = loads; nothing = p })
+    inl (record { command = command; words = is; file = file; file_is = of; ends_so = loads; nothing = p })
 
 -- there is no memory for what is made of the file
 pub says_no_memory : (call : CallSeen) (command : Command) (bytes input : List ℕ) → HasLoaded call command bytes input

@@ -146,29 +146,23 @@ pub record HasNoCommand (call : CallSeen) : Type 0 where
   pub shelf : AsksNothing call.shelf
   pub nothing : PutsNothing call
 
--- a file could not be read
-pub record HasNoFile (call : CallSeen) : Type 0 where
+-- nothing was put, since loading the command's file and its input ended so
+pub record StopsAtFile (call : CallSeen) (EndsSo : ShelfSeen → File → Option File → Type 0) : Type 0 where
   pub command : Command
   pub words : IsCommand call.words command
   pub file : File
   pub file_is : file_of command ≡ Some file
-  pub not_loaded : IsNotLoaded call.shelf file (input_of command)
+  pub ends_so : EndsSo call.shelf file (input_of command)
   pub nothing : PutsNothing call
+
+-- a file could not be read
+abbrev pub HasNoFile : CallSeen → Type 0
+HasNoFile call = StopsAtFile call IsNotLoaded
 
 -- a file has more bytes than it may have
-pub record HasLongFile (call : CallSeen) : Type 0 where
-  pub command : Command
-  pub words : IsCommand call.words command
-  pub file : File
-  pub file_is : file_of command ≡ Some file
-  pub too_long : IsTooLong call.shelf file (input_of command)
-  pub nothing : PutsNothing call
+abbrev pub HasLongFile : CallSeen → Type 0
+HasLongFile call = StopsAtFile call IsTooLong
 
 -- no memory was left for a file
-pub record LacksFile (call : CallSeen) : Type 0 where
-  pub command : Command
-  pub words : IsCommand call.words command
-  pub file : File
-  pub file_is : file_of command ≡ Some file
-  pub lacks : LacksMemory call.shelf file (input_of command)
-  pub nothing : PutsNothing call
+abbrev pub LacksFile : CallSeen → Type 0
+LacksFile call = StopsAtFile call LacksMemory

@@ -8,6 +8,8 @@ use Rattle.rv_isa.specs.declared.inst.Inst.TheVariants.{Lw, Ld, Lbu, Lhu, Lwu, S
 use Rattle.rv_isa.specs.declared.inst.Inst.TheVariants.{Ori, Andi, Slli, Srli, Srai, Add, Sub, Sll, Slt, Sltu, Xor, Srl}
 use Rattle.rv_isa.specs.declared.inst.Inst.TheVariants.{Sra, Or, And, Addiw, Slliw, Srliw, Sraiw, Addw, Subw, Sllw}
 use Rattle.rv_isa.specs.declared.inst.Inst.TheVariants.{Srlw, Sraw, Fence, Ecall, Ebreak}
+use Rattle.rv_isa.specs.Table.{Form, form_of, RegisterForm, ImmediateForm, ShiftForm, WordShiftForm, StoreForm}
+use Rattle.rv_isa.specs.Table.{BranchForm, UpperForm, JumpForm, WholeWord}
 use Rattle.listing.specs.declared.instructions.Operands.{Operands}
 use Rattle.listing.specs.declared.instructions.Operands.TheVariants.{Nothing, Registers, RegistersAndNumber}
 use Rattle.listing.specs.declared.instructions.Operands.TheVariants.{RegisterAndNumber, AtAddress}
@@ -70,19 +72,22 @@ name_text Ebreak = codes "ebreak"
 
 -- ---- operands
 
--- what an instruction shows behind its name, in this order: registers, and a number as it counts; of a FENCE nothing,
--- since none of its operands does anything
+-- what an instruction of a form shows behind its name, in this order: registers, and a number as it counts
+abbrev pub form_operands : Form → Operands
+form_operands (RegisterForm opcode funct3 funct7 rd rs1 rs2) = Registers rd rs1 rs2
+form_operands (ImmediateForm opcode funct3 rd rs1 immediate) = RegistersAndNumber rd rs1 immediate
+form_operands (ShiftForm funct3 kind rd rs1 amount) = RegistersAndNumber rd rs1 (pos amount)
+form_operands (WordShiftForm funct3 funct7 rd rs1 amount) = RegistersAndNumber rd rs1 (pos amount)
+form_operands (StoreForm funct3 rs2 rs1 offset) = AtAddress rs2 offset rs1
+form_operands (BranchForm funct3 rs1 rs2 offset) = RegistersAndNumber rs1 rs2 offset
+form_operands (UpperForm opcode rd upper) = RegisterAndNumber rd (pos upper)
+form_operands (JumpForm rd offset) = RegisterAndNumber rd offset
+form_operands (WholeWord word) = Nothing
+
+-- JALR and loads have an address in place of a number; of a FENCE nothing is shown, since none of its operands does
+-- anything
 abbrev pub operands_of : Inst → Operands
-operands_of (Lui rd upper) = RegisterAndNumber rd (pos upper)
-operands_of (Auipc rd upper) = RegisterAndNumber rd (pos upper)
-operands_of (Jal rd offset) = RegisterAndNumber rd offset
 operands_of (Jalr rd rs1 offset) = AtAddress rd offset rs1
-operands_of (Beq rs1 rs2 offset) = RegistersAndNumber rs1 rs2 offset
-operands_of (Bne rs1 rs2 offset) = RegistersAndNumber rs1 rs2 offset
-operands_of (Blt rs1 rs2 offset) = RegistersAndNumber rs1 rs2 offset
-operands_of (Bge rs1 rs2 offset) = RegistersAndNumber rs1 rs2 offset
-operands_of (Bltu rs1 rs2 offset) = RegistersAndNumber rs1 rs2 offset
-operands_of (Bgeu rs1 rs2 offset) = RegistersAndNumber rs1 rs2 offset
 operands_of (Lb rd rs1 offset) = AtAddress rd offset rs1
 operands_of (Lh rd rs1 offset) = AtAddress rd offset rs1
 operands_of (Lw rd rs1 offset) = AtAddress rd offset rs1
@@ -90,41 +95,8 @@ operands_of (Ld rd rs1 offset) = AtAddress rd offset rs1
 operands_of (Lbu rd rs1 offset) = AtAddress rd offset rs1
 operands_of (Lhu rd rs1 offset) = AtAddress rd offset rs1
 operands_of (Lwu rd rs1 offset) = AtAddress rd offset rs1
-operands_of (Sb rs2 rs1 offset) = AtAddress rs2 offset rs1
-operands_of (Sh rs2 rs1 offset) = AtAddress rs2 offset rs1
-operands_of (Sw rs2 rs1 offset) = AtAddress rs2 offset rs1
-operands_of (Sd rs2 rs1 offset) = AtAddress rs2 offset rs1
-operands_of (Addi rd rs1 immediate) = RegistersAndNumber rd rs1 immediate
-operands_of (Slti rd rs1 immediate) = RegistersAndNumber rd rs1 immediate
-operands_of (Sltiu rd rs1 immediate) = RegistersAndNumber rd rs1 immediate
-operands_of (Xori rd rs1 immediate) = RegistersAndNumber rd rs1 immediate
-operands_of (Ori rd rs1 immediate) = RegistersAndNumber rd rs1 immediate
-operands_of (Andi rd rs1 immediate) = RegistersAndNumber rd rs1 immediate
-operands_of (Slli rd rs1 amount) = RegistersAndNumber rd rs1 (pos amount)
-operands_of (Srli rd rs1 amount) = RegistersAndNumber rd rs1 (pos amount)
-operands_of (Srai rd rs1 amount) = RegistersAndNumber rd rs1 (pos amount)
-operands_of (Add rd rs1 rs2) = Registers rd rs1 rs2
-operands_of (Sub rd rs1 rs2) = Registers rd rs1 rs2
-operands_of (Sll rd rs1 rs2) = Registers rd rs1 rs2
-operands_of (Slt rd rs1 rs2) = Registers rd rs1 rs2
-operands_of (Sltu rd rs1 rs2) = Registers rd rs1 rs2
-operands_of (Xor rd rs1 rs2) = Registers rd rs1 rs2
-operands_of (Srl rd rs1 rs2) = Registers rd rs1 rs2
-operands_of (Sra rd rs1 rs2) = Registers rd rs1 rs2
-operands_of (Or rd rs1 rs2) = Registers rd rs1 rs2
-operands_of (And rd rs1 rs2) = Registers rd rs1 rs2
-operands_of (Addiw rd rs1 immediate) = RegistersAndNumber rd rs1 immediate
-operands_of (Slliw rd rs1 amount) = RegistersAndNumber rd rs1 (pos amount)
-operands_of (Srliw rd rs1 amount) = RegistersAndNumber rd rs1 (pos amount)
-operands_of (Sraiw rd rs1 amount) = RegistersAndNumber rd rs1 (pos amount)
-operands_of (Addw rd rs1 rs2) = Registers rd rs1 rs2
-operands_of (Subw rd rs1 rs2) = Registers rd rs1 rs2
-operands_of (Sllw rd rs1 rs2) = Registers rd rs1 rs2
-operands_of (Srlw rd rs1 rs2) = Registers rd rs1 rs2
-operands_of (Sraw rd rs1 rs2) = Registers rd rs1 rs2
 operands_of (Fence rd rs1 immediate) = Nothing
-operands_of Ecall = Nothing
-operands_of Ebreak = Nothing
+operands_of inst = form_operands (form_of inst)
 
 abbrev pub register_text : ℕ → List ℕ
 register_text number = codes "x" ++ decimal number

@@ -10,7 +10,7 @@ use rv_isa::inst::{Inst, decode};
 use rv_isa::number::Reg;
 
 /// What stands behind the name of an instruction.
-#[derive(Clone, Copy, PartialEq, Eq, Debug)]
+#[derive(Clone, Copy)]
 pub enum Operands {
     /// Nothing.
     Nothing,

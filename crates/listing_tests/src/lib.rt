@@ -3,10 +3,4 @@
 #![tactic(auto)]
 
 #[cfg(test)]
-mod casts;
-#[cfg(test)]
-mod codes;
-#[cfg(test)]
-mod programs;
-#[cfg(test)]
-mod readings;
+mod tests;

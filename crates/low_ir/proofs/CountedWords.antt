@@ -8,7 +8,7 @@ use Rattle.grift_base.specs.World.{WorldState}
 use Rattle.grift_base.specs.EnvironmentCall.{environment_call}
 use Rattle.grift_base.specs.declared.verdicts.Verdict.{Verdict}
 use Rattle.run_laws.specs.Runs.{Ending, Wrong}
-use Rattle.run_laws.specs.Machines.{Next, Go, Stop, Machine, and_then, steps, seen, run}
+use Rattle.run_laws.specs.Machines.{Next, Go, Stop, Machine, steps, seen, run}
 use Rattle.machine_words.specs.Memory.{Memory}
 use Rattle.machine_words.specs.Halts.{Halt, Ended, Lacks, Region}
 use Rattle.machine_words.specs.Arithmetic.{plus}
@@ -23,6 +23,7 @@ use Rattle.low_ir.specs.Run.{goes_on, sets, enter_some}
 use Rattle.low_ir.specs.Run.{waits, answers, held_by, falls, request, take_words, build}
 use Rattle.low_ir.specs.Run.{finds_no_room, call_environment, code_step, low_machine, low_start}
 use Rattle.low_ir.proofs.CallEndings.{call_has_room}
+use Rattle.low_ir.proofs.Leading.{LeadsTo, leads_along, leads_given, leads_if}
 use Rattle.low_ir.specs.Counting.{calls, any_calls, FillsUpTo, Exceeds, IsWantOfRegion, CountsWords}
 
 -- ---- what holds of each procedure
@@ -119,21 +120,18 @@ module _ {V : Type 0} (reading : Halt → Ending V) (setting : Setting) (most : 
       × Holds s
 
   abbrev Leads : Next LowState V → Type 0
-  Leads (Go s) = Good s
-  Leads (Stop e s) = AtEnd e s
+  Leads x = LeadsTo Good AtEnd x
 
   goes_wrong : (s : LowState) → Filled s → Holds s → AtEnd Wrong s
   goes_wrong s f o = (inl f, λ c w. absurd (w.right refl), o)
 
   if_given : {A : Type 0} (s : LowState) (o : Option A) (go : A → Next LowState V) → Filled s → Holds s
       → ((x : A) → o ≡ Some x → Leads (go x)) → Leads (given s o go)
-  if_given s None go f o h = goes_wrong s f o
-  if_given s (Some x) go f o h = h x refl
+  if_given s x go f o h = leads_given Leads s (goes_wrong s f o) x go h
 
   if_test : (s : LowState) (b : Bool) (go : Next LowState V) → Filled s → Holds s → (b ≡ true → Leads go)
       → Leads (only_if s b go)
-  if_test s true go f o h = h refl
-  if_test s false go f o h = goes_wrong s f o
+  if_test s b go f o h = leads_if Leads s (goes_wrong s f o) b go h
 
   by_room : (b : Bool) (x y : Next LowState V) → (b ≡ true → Leads x) → (b ≡ false → Leads y)
       → Leads (if b then x else y)
@@ -304,15 +302,8 @@ module _ {V : Type 0} (reading : Halt → Ending V) (setting : Setting) (most : 
   abbrev M : Machine LowState LowShown V
   M = low_machine reading setting
 
-  goes_on_from : (x : Next LowState V) (go : LowState → Next LowState V) → Leads x
-      → ((s : LowState) → Good s → Leads (go s)) → Leads (and_then x go)
-  goes_on_from (Go s) go l h = h s l
-  goes_on_from (Stop e s) go l h = l
-
   along : (n : ℕ) (s : LowState) → Good s → Leads (steps M s n)
-  along zero s g = g
-  along (suc n) s g =
-      goes_on_from (M.step s) (λ s1. steps M s1 n) (step s.active.code s g) (λ s1 g1. along n s1 g1)
+  along n s g = leads_along M Good AtEnd (λ s1 g1. step s1.active.code s1 g1) n s g
 
   starts : (entry : ℕ) (p : Proc) (memory : Memory) (world : WorldState)
       → slice_get setting.procs entry ≡ Some p → Good (low_start setting p memory world)

@@ -3,5 +3,6 @@ mod OneByOne
 mod WindowLemmas
 mod ClosedInWindows
 mod CallEndings
+mod Leading
 pub mod CountedWords
 mod Priced

@@ -4,3 +4,5 @@ pub use Rattle.low_ir.proofs.CountedWords.{words_are_counted_where_they_are_take
 pub use Rattle.low_ir.proofs.Priced.{step_pays as steps_are_paid, costs_on, costs_last}
 -- an environment call that isn't the one for want of a room doesn't halt for want of it
 pub use Rattle.low_ir.proofs.CallEndings.{call_of, call_has_room}
+-- what each step leads to, a run leads to
+pub use Rattle.low_ir.proofs.Leading.{LeadsTo, leads_along, leads_given, leads_if}

@@ -19,7 +19,7 @@ const OFFSETS_END: u32 = 2048;
 const BUILT_END: u64 = 256;
 
 /// Words of a procedure from one on, 64 of them: bit i tells whether word `from + i` is set.
-#[derive(Clone, Copy, PartialEq, Eq, Debug)]
+#[derive(Clone, Copy)]
 pub struct Window {
     pub from: u32,
     pub set: u64,

@@ -10,22 +10,45 @@ use grift_base::lists::Items;
 use grift_base::words::Statics;
 
 /// A procedure: how many words it takes, how many it has, of which those that it takes are the first, and its code.
-#[derive(Drop)]
 pub struct LowProc {
     pub params: u32,
     pub words: u32,
     pub code: LowCode,
 }
 
+// By hand, so that each place where one goes is one call.
+impl Drop for LowProc {
+    fn drop(self) {
+        let LowProc {
+            params: _,
+            words: _,
+            code,
+        } = self;
+        drop(code);
+    }
+}
+
 /// Procedures by their numbers.
 pub type LowProcs = Items<LowProc>;
 
 /// A program: its procedures, the number of the one that it begins with, and the words that stand before its code.
-#[derive(Drop)]
 pub struct LowProgram {
     pub procs: LowProcs,
     pub entry: u32,
     pub statics: Statics,
+}
+
+// By hand, so that each place where one goes is one call.
+impl Drop for LowProgram {
+    fn drop(self) {
+        let LowProgram {
+            procs,
+            entry: _,
+            statics,
+        } = self;
+        drop(procs);
+        drop(statics);
+    }
 }
 
 impl LowProgram {

@@ -25,6 +25,7 @@ pub use Rattle.lower.proofs.words.Standing.{stands_as}
 pub use Rattle.lower.proofs.words.Products.{products_are_served}
 pub use Rattle.lower.proofs.simulation.Fills.{LetsFill, vectors_are_served}
 pub use Rattle.lower.proofs.merging.States.{calls_blame, in_front, element_past}
+pub use Rattle.lower.proofs.merging.Reads.{too_many}
 pub use Rattle.lower.proofs.words.Arithmetic.{word_small, positive_is, negative_is, small_fits}
 -- and what follows of it:
 pub use Rattle.lower.proofs.simulation.Programs.{words_follow_by, words_keep_by}

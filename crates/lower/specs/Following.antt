@@ -9,9 +9,10 @@ use Rattle.machine_words.specs.Halts.{ending_of}
 use Rattle.machine_words.specs.Memory.{Memory}
 use Rattle.low_ir.specs.Prices.{low_price}
 use Rattle.low_ir.specs.Procedures.{Proc as LowProc}
-use Rattle.low_ir.specs.Run.{Setting, low_machine, low_start}
+use Rattle.low_ir.specs.Run.{Setting, LowShown, low_machine, low_start}
 use Rattle.core_calc.specs.Account.{Measures}
 use Rattle.cast_modes.specs.AnswerTypes.{Told}
+use Rattle.cast_modes.specs.Counting.{Counts}
 use Rattle.cast_modes.specs.Modes.{TypeCast}
 use Rattle.coercion_norm.specs.Held.{Layout, TypesStand}
 use Rattle.flat_ir.specs.Bodies.{Proc}
@@ -54,10 +55,11 @@ ServesEverywhere meaning procs_from numbers_from =
     → Serving meaning setting l procs casts m (with_casts (numbers_from first) words (cast_ways l.types casts))
 
 -- The run over words of a lowered program, with the procedures of a scheme behind it, follows the run of its procedures
--- in the mode of the scheme, for every input, where that never goes wrong; and at each moment the scheme's test holds
--- of the region and the number of wrap steps.
-abbrev pub WordsFollow : Meaning → (ℕ → List LowProc) → (ℕ → Served) → Type 0
-WordsFollow meaning procs_from numbers_from =
+-- in the mode of the scheme, for every input, where that never goes wrong; and at each moment this holds of the state
+-- that the run over words shows, and of the numbers of steps at the moment that corresponds.
+abbrev pub WordsFollowBy : (Setting → Layout → LowShown → Counts → Type 0) → Meaning → (ℕ → List LowProc)
+    → (ℕ → Served) → Type 0
+WordsFollowBy Holds meaning procs_from numbers_from =
     (setting : Setting) (l : Layout) (words : List ℕ) (procs : List Proc) (entry : ℕ) (answer : TypeRow)
     (memory : Memory) (told : Told) (casts : List TypeCast) (input : List ℕ) → let first : ℕ = suc (length procs) in
     IsLowered setting l (with_casts (numbers_from first) words (cast_ways l.types casts)) procs entry answer
@@ -66,9 +68,15 @@ WordsFollow meaning procs_from numbers_from =
     → told.types ≡ l.types → TypesStand l → meaning.CastWords l casts words → is_closed procs entry ≡ true
     → AreNarrow procs
     → NeverWrong (flat_run_in procs entry (meaning.mode told.types casts) told input)
-    → FollowsBy (λ shown counts. Passes meaning setting l shown counts.wraps) Any
+    → FollowsBy (Holds setting l) Any
     (run (low_machine ending_of setting) (low_start setting (entry_proc entry answer) memory (first_world input)))
     (flat_run_in procs entry (meaning.mode told.types casts) told input)
+
+-- so it does, and at each moment the scheme's test holds of the region and the number of wrap steps
+abbrev pub WordsFollow : Meaning → (ℕ → List LowProc) → (ℕ → Served) → Type 0
+WordsFollow meaning procs_from numbers_from =
+    WordsFollowBy (λ setting l shown counts. Passes meaning setting l shown counts.wraps) meaning procs_from
+    numbers_from
 
 -- It keeps within the account of that run, for all measures that fit, where no procedure has more than so many words:
 -- at each moment in words asked for and in frames, and where it has come to what that run has come to, in the prices of

@@ -1,6 +1,6 @@
 -- What stands in memory for a scheme's casts, and what is shown of the program over words that is made with it.
-use Rattle.std.specs.Prelude.{◌≡◌, ◌+◌, ◌*◌, ◌%◌, ◌^◌, ◌<◌, ◌≤◌, ℕ, All, List, length, Some, slice_get}
-use Rattle.grift_base.specs.Types.{TypeRows}
+use Rattle.std.specs.Prelude.{◌≡◌, ◌+◌, ◌*◌, ◌%◌, ◌^◌, ◌<◌, ◌≤◌, ℕ, suc, true, All, List, length, Some, slice_get}
+use Rattle.grift_base.specs.Types.{TypeRow, TypeRows, row_at}
 use Rattle.grift_base.specs.declared.words.Statics.{Statics}
 use Rattle.run_laws.specs.Accounts.{FollowsWithin}
 use Rattle.run_laws.specs.Machines.{run}
@@ -9,6 +9,7 @@ use Rattle.run_laws.specs.Runs.{Any, FollowsBy, NeverWrong}
 use Rattle.machine_words.specs.Halts.{ending_of}
 use Rattle.machine_words.specs.Memory.{Memory, first_address}
 use Rattle.low_ir.specs.declared.programs.LowProgram.{LowProgram}
+use Rattle.low_ir.specs.Closed.{is_closed}
 use Rattle.low_ir.specs.Prices.{low_price}
 use Rattle.low_ir.specs.Procedures.{Proc as LowProc}
 use Rattle.low_ir.specs.Run.{Setting, low_machine, low_start}
@@ -19,13 +20,18 @@ use Rattle.cast_modes.specs.Modes.{TypeCast}
 use Rattle.coercion_norm.specs.Held.{Layout, TypesStand}
 use Rattle.coercion_norm.specs.Objects.{words_of_all}
 use Rattle.flat_ir.specs.declared.programs.FlatProgram.{FlatProgram}
+use Rattle.flat_ir.specs.Closed.{is_closed as is_closed_flat}
 use Rattle.flat_ir.specs.Counts.{flat_run_in}
 use Rattle.flat_ir.specs.FlatTally.{flat_tally_in}
 use Rattle.flat_ir.specs.Machine.{first_world}
 use Rattle.flat_ir.specs.Views.{procs_of as flat_procs_of}
 use Rattle.rt_cast.specs.Objects.{HoldsWords}
+use Rattle.lower.specs.declared.served.Served.{Served}
+use Rattle.lower.specs.CastWays.{cast_ways}
 use Rattle.lower.specs.Keeping.{FitsMeasures, KeepsFlat, PaysFlat}
 use Rattle.lower.specs.Meanings.{Meaning}
+use Rattle.lower.specs.Lowered.{lowered}
+use Rattle.lower.specs.Sets.{with_casts}
 use Rattle.lower.specs.SimulationClaims.{AreCodeAddresses}
 use Rattle.lower.specs.Storage.{Passes}
 
@@ -51,6 +57,20 @@ pub record IsLoaded (setting : Setting) (low : LowProgram) (memory : Memory) : T
   pub even : setting.region % 8 ≡ 0
   pub fits : setting.region ≤ setting.top
   pub small : setting.top < 2 ^ 34
+
+-- the procedures of the program over words are the lowered ones, and behind them those that serve
+abbrev pub HasProcs : (ℕ → List LowProc) → (ℕ → Served) → FlatProgram → TypeRows → List TypeCast → LowProgram → Type 0
+HasProcs procs_from numbers_from flat types casts low =
+    (answer : TypeRow) → row_at types flat.answer.0 ≡ Some answer
+    → let first : ℕ = suc (length flat.procs) in
+    procs_of low.procs
+    ≡ lowered (with_casts (numbers_from first) low.statics.cast_at (cast_ways types casts)) (flat_procs_of flat.procs)
+    flat.entry answer (procs_from first)
+
+-- it is closed where the flat program is
+abbrev pub StaysClosed : FlatProgram → LowProgram → Type 0
+StaysClosed flat low =
+    is_closed_flat (flat_procs_of flat.procs) flat.entry ≡ true → is_closed (procs_of low.procs) low.entry ≡ true
 
 -- what the run of the numbered procedures is told
 abbrev pub told_in : Setting → TypeRows → ℕ → Told

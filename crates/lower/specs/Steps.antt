@@ -24,7 +24,7 @@ put (TakeStep n) k = Take n k
 put (EnvironmentStep number a b d e) k = Environment number a b d e k
 put (CallStep d number words) k = Call d number words k
 put (CallAtStep d f words) k = CallAt d f words k
-put (IfStep cond a b one other) k = If cond a b (code_of one) (code_of other) k
+put (IfStep cond a b one other) k = If cond a b (code_of one.value) (code_of other.value) k
 
 -- steps in order, and behind them a code
 abbrev pub ahead : List Step → Code → Code

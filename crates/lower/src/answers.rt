@@ -48,7 +48,7 @@ fn ends_if(
 {
     let end = ends(alloc, kind, word)?;
     let kept = Number(kept.word());
-    steps.push(Step::If(Cond::Eq, Word(1), kept, end, LowCode::Done))
+    steps.push_if((Cond::Eq, Word(1), kept), (end, LowCode::Done))
 }
 
 // The end for a value in Dyn that has parts, whose type's kind is in word 1.
@@ -110,7 +110,7 @@ fn show_dyn(alloc: Global) -> Result<LowCode, OutOfMemory>
     let small = open_small(alloc)?;
     let mut steps = Steps::new(alloc);
     steps.push(Step::Compute(WordOp::And, 1, Word(0), Number(TAG_MASK)))?;
-    steps.push(Step::If(Cond::Eq, Word(1), Number(0), object, small))?;
+    steps.push_if((Cond::Eq, Word(1), Number(0)), (object, small))?;
     steps.before(show_kept(alloc)?)
 }
 

@@ -184,7 +184,7 @@ impl Emitter<'_> {
                     let source = fetch(steps, self.shape, 0, *operand)?;
                     let one = self.inner(on_true, d)?;
                     let other = self.inner(on_false, d)?;
-                    return steps.push(Step::If(Cond::Ne, source, Number(0), one, other));
+                    return steps.push_if((Cond::Ne, source, Number(0)), (one, other));
                 }
                 FlatBody::LetBody(slot, inner, rest) => {
                     self.emit_into(steps, inner, self.shape.local_word(*slot)?)?;
@@ -228,7 +228,7 @@ impl Emitter<'_> {
                 FlatBody::Choose(operand, on_true, on_false) => {
                     let source = fetch(&mut steps, self.shape, 0, *operand)?;
                     let one = self.emit_last(on_true)?;
-                    steps.push(Step::If(Cond::Ne, source, Number(0), one, LowCode::Done))?;
+                    steps.push_if((Cond::Ne, source, Number(0)), (one, LowCode::Done))?;
                     return steps.before(self.emit_last(on_false)?);
                 }
                 FlatBody::LetBody(slot, inner, rest) => {

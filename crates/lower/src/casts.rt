@@ -177,7 +177,7 @@ impl Emitter<'_> {
         let called = self.only_call_cast(d, a, number)?;
         steps.push(Step::Compute(WordOp::Sll, shifted, a, bits))?;
         steps.push(Step::Compute(WordOp::Sra, back, Word(shifted), bits))?;
-        steps.push(Step::If(Cond::Eq, Word(back), a, tagged, called))
+        steps.push_if((Cond::Eq, Word(back), a), (tagged, called))
     }
 
     // A word is taken from behind a tag, where it has this one.
@@ -196,12 +196,7 @@ impl Emitter<'_> {
         let taken = self.only(Step::Compute(WordOp::Sra, d, a, Number(TAG_SHIFT)))?;
         let called = self.only_call_cast(d, a, number)?;
         steps.push(Step::Compute(WordOp::And, found, a, Number(TAG_MASK)))?;
-        steps.push(Step::If(
-            Cond::Eq,
-            Word(found),
-            Number(tag_number(tag)),
-            taken,
-            called,
-        ))
+        let tag = Number(tag_number(tag));
+        steps.push_if((Cond::Eq, Word(found), tag), (taken, called))
     }
 }

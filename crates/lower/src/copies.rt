@@ -6,6 +6,7 @@ ghost use Rattle.lower.specs.Steps.{words_named};
 
 use crate::steps::{Step, Steps};
 use grift_base::lists::OutOfMemory;
+use grift_base::made::{both, boxed_made};
 use low_ir::code::{LowCode, LowSources};
 use low_ir::programs::{LowProc, LowProcs};
 use std::alloc::Global;
@@ -49,8 +50,10 @@ fn copied(alloc: Global, code: &LowCode) -> Result<LowCode, OutOfMemory>
             LowCode::Call(d, k, _, rest) => (Step::Call(*d, *k, words), rest),
             LowCode::CallAt(d, f, _, rest) => (Step::CallAt(*d, *f, words), rest),
             LowCode::If(cond, a, b, one, other, rest) => {
-                let branches = (copied(alloc, one)?, copied(alloc, other)?);
-                (Step::If(*cond, *a, *b, branches.0, branches.1), rest)
+                let one = boxed_made(alloc, copied(alloc, one));
+                let other = boxed_made(alloc, copied(alloc, other));
+                let (one, other) = both(one, other)?;
+                (Step::If(*cond, *a, *b, one, other), rest)
             }
             LowCode::Return(a) => return steps.before(LowCode::Return(*a)),
             LowCode::TailCall(k, _) => return steps.before(LowCode::TailCall(*k, words)),

@@ -1,19 +1,15 @@
 // The scheme of the merged mode.
 
-ghost use Rattle.std.specs.Prelude.{◌≡◌, ◌<◌, ◌^◌, ℕ, suc, true, All, IfOk, Some, length};
-ghost use Rattle.grift_base.specs.Types.{TypeRow, row_at};
+ghost use Rattle.std.specs.Prelude.{◌≡◌, ◌<◌, ◌^◌, true, All, IfOk, length};
 ghost use Rattle.machine_words.specs.declared.TheConstants.{FIRST_ADDRESS};
 ghost use Rattle.coercion_norm.specs.CoercionTables.{FitsTypes};
 ghost use Rattle.coercion_norm.specs.CastRows.{row_casts};
 ghost use Rattle.coercion_norm.specs.Statics.{AreStatics};
-ghost use Rattle.flat_ir.specs.Closed.{is_closed as is_closed_flat};
 ghost use Rattle.flat_ir.specs.Views.{procs_of as flat_procs_of};
-ghost use Rattle.low_ir.specs.Closed.{is_closed};
 ghost use Rattle.low_ir.specs.Views.{procs_of};
-ghost use Rattle.lower.specs.CastWays.{cast_ways};
-ghost use Rattle.lower.specs.Lowered.{lowered};
 ghost use Rattle.lower.specs.Serving.{all_narrow};
-ghost use Rattle.lower.specs.Sets.{merged_numbers, merged_procs, with_casts};
+ghost use Rattle.lower.specs.MadePrograms.{HasProcs, StaysClosed};
+ghost use Rattle.lower.specs.Sets.{merged_numbers, merged_procs};
 
 use crate::copies::push_copies;
 use crate::schemes::{Scheme, lower_over};
@@ -107,15 +103,12 @@ pub fn lower(
     requires answer { flat.now.answer.0 < length types.now }
     requires fits { FitsTypes types.now coercions.now }
     requires casts { All (λ cast. cast.coercion.0 < length coercions.now.nodes) casts.now }
-    ensures procs { IfOk result (λ low. (answer : TypeRow) → row_at types.now flat.now.answer.0 ≡ Some answer
-        → let first : ℕ = suc (length flat.now.procs) in procs_of low.procs
-        ≡ lowered (with_casts (merged_numbers first) low.statics.cast_at (cast_ways types.now (row_casts casts.now)))
-        (flat_procs_of flat.now.procs) flat.now.entry answer (merged_procs first)) }
+    ensures procs { IfOk result
+        (HasProcs merged_procs merged_numbers flat.now types.now (row_casts casts.now)) }
     ensures entry { IfOk result (λ low. low.entry ≡ length flat.now.procs) }
     ensures statics { IfOk result (λ low.
         AreStatics types.now coercions.now.nodes casts.now FIRST_ADDRESS low.statics) }
-    ensures closed { IfOk result (λ low. is_closed_flat (flat_procs_of flat.now.procs) flat.now.entry ≡ true
-        → is_closed (procs_of low.procs) low.entry ≡ true) }
+    ensures closed { IfOk result (StaysClosed flat.now) }
     ensures narrow { IfOk result (λ low. all_narrow (flat_procs_of flat.now.procs) ≡ true) }
 {
     let statics = place_rows(alloc, types, coercions, casts, FIRST_ADDRESS)?;

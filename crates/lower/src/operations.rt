@@ -90,11 +90,10 @@ impl Emitter<'_> {
             (λ k. of_kind self.now.shape object (kind_number kind) (code_of ways.0) (code_of ways.1) k)) }
     {
         let test = self.shape.operand_word(TEST_PLACE)?;
-        let (one, other) = ways;
         steps.push(Step::Load(test, object, 0))?;
         steps.push(Step::Compute(WordOp::And, test, Word(test), Number(KIND_MASK)))?;
         let kind = Number(kind.word());
-        steps.push(Step::If(Cond::Eq, Word(test), kind, one, other))
+        steps.push_if((Cond::Eq, Word(test), kind), ways)
     }
 
     /// A procedure is called, and its answer put into a word.
@@ -111,33 +110,20 @@ impl Emitter<'_> {
         steps.push(Step::Call(d, number, words))
     }
 
-    // A comparison whose answer is turned.
-    fn compare_turned(
+    // What an operation gives of two sources, and then another one of that and 1.
+    fn compute_twice(
         &self,
         steps: &mut Steps,
         d: u32,
-        a: LowSource,
-        b: LowSource,
-    ) -> Result<(), OutOfMemory>
-        ensures { OnOk result (Adds steps.old.steps.items steps.new.steps.items (λ k. Compute Slt d a b (turned d k))) }
-    {
-        steps.push(Step::Compute(WordOp::Slt, d, a, b))?;
-        steps.push(Step::Compute(WordOp::Xor, d, Word(d), Number(1)))
-    }
-
-    // Whether two words are the same.
-    fn equal(
-        &self,
-        steps: &mut Steps,
-        d: u32,
-        a: LowSource,
-        b: LowSource,
+        ops: (WordOp, WordOp),
+        sources: (LowSource, LowSource),
     ) -> Result<(), OutOfMemory>
         ensures { OnOk result (Adds steps.old.steps.items steps.new.steps.items
-            (λ k. Compute Xor d a b (Compute Sltu d (Word d) (Number 1) k))) }
+            (λ k. Compute ops.0 d sources.0 sources.1 (Compute ops.1 d (Word d) (Number 1) k))) }
     {
-        steps.push(Step::Compute(WordOp::Xor, d, a, b))?;
-        steps.push(Step::Compute(WordOp::Sltu, d, Word(d), Number(1)))
+        let (op, then) = ops;
+        steps.push(Step::Compute(op, d, sources.0, sources.1))?;
+        steps.push(Step::Compute(then, d, Word(d), Number(1)))
     }
 
     // An environment call that goes on, with the value `()`.
@@ -166,7 +152,7 @@ impl Emitter<'_> {
         let (zero, input) = (Number(0), Number(u64::from(Trap::Input.number())));
         steps.push(Step::Environment(READ_INT_CALL, zero, zero, number, test))?;
         let trapped = self.only(Step::Environment(TRAP_CALL, input, zero, test, test))?;
-        steps.push(Step::If(Cond::Ne, Word(test), Number(0), trapped, LowCode::Done))?;
+        steps.push_if((Cond::Ne, Word(test), Number(0)), (trapped, LowCode::Done))?;
         steps.push(Step::Set(d, Word(number)))
     }
 
@@ -232,9 +218,9 @@ impl Emitter<'_> {
             PrimOp::Rem => self.call(steps, d, self.run.divide, &[a, b, Number(ASKS_REMAINDER)]),
             PrimOp::Lt => steps.push(Step::Compute(WordOp::Slt, d, a, b)),
             PrimOp::Gt => steps.push(Step::Compute(WordOp::Slt, d, b, a)),
-            PrimOp::Le => self.compare_turned(steps, d, b, a),
-            PrimOp::Ge => self.compare_turned(steps, d, a, b),
-            PrimOp::Eq => self.equal(steps, d, a, b),
+            PrimOp::Le => self.compute_twice(steps, d, (WordOp::Slt, WordOp::Xor), (b, a)),
+            PrimOp::Ge => self.compute_twice(steps, d, (WordOp::Slt, WordOp::Xor), (a, b)),
+            PrimOp::Eq => self.compute_twice(steps, d, (WordOp::Xor, WordOp::Sltu), (a, b)),
             PrimOp::Not => steps.push(Step::Compute(WordOp::Xor, d, a, Number(1))),
             PrimOp::PrintInt => self.environment(steps, d, PRINT_INT_CALL, a),
             PrimOp::Newline => self.environment(steps, d, PRINT_BYTE_CALL, Number(LINE_FEED)),

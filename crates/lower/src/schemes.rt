@@ -1,8 +1,8 @@
 // Schemes: what stands in memory for casts, and which procedures serve.
 
-ghost use Rattle.std.specs.Prelude.{ℕ, suc, true, List, [], Some, All, IfOk, length};
+ghost use Rattle.std.specs.Prelude.{ℕ, true, List, [], All, IfOk, length};
 ghost use Rattle.std.specs.Prelude.{◌≡◌, ◌<◌, ◌≤◌, ◌%◌, ◌^◌, ◌++◌};
-ghost use Rattle.grift_base.specs.Types.{TypeRow, TypeRows, row_at};
+ghost use Rattle.grift_base.specs.Types.{TypeRows};
 ghost use Rattle.grift_base.specs.declared.words.Statics.{Statics};
 ghost use Rattle.machine_words.specs.declared.TheConstants.{FIRST_ADDRESS};
 ghost use Rattle.type_graph.specs.Rows.{row_of};
@@ -20,7 +20,7 @@ ghost use Rattle.lower.specs.declared.served.Served.{Served};
 ghost use Rattle.lower.specs.CastWays.{cast_ways};
 ghost use Rattle.lower.specs.Following.{ServesEverywhere};
 ghost use Rattle.lower.specs.Lowered.{lowered};
-ghost use Rattle.lower.specs.MadePrograms.{MadeFollows, MadeKeeps, StaticsServe};
+ghost use Rattle.lower.specs.MadePrograms.{HasProcs, MadeFollows, MadeKeeps, StaticsServe, StaysClosed};
 ghost use Rattle.lower.specs.Meanings.{Meaning, MeaningLaws};
 ghost use Rattle.lower.specs.Serving.{all_narrow};
 ghost use Rattle.lower.specs.Sets.{GiveUpNowhere, ServesAnywhere, numbers_of, with_casts};
@@ -33,6 +33,7 @@ use coercion_norm::cast_rows::CastRows;
 use coercion_norm::tables::CoercionTable;
 use flat_ir::programs::{FlatProcs, FlatProgram};
 use grift_base::lists::OutOfMemory;
+use grift_base::made::both;
 use grift_base::words::{Statics, WordList};
 use low_ir::programs::{LowProcs, LowProgram};
 use machine_words::FIRST_ADDRESS;
@@ -108,7 +109,8 @@ fn served_by(
     ensures { IfOk result (λ run. run ≡ with_casts (numbers_of set.now) statics.now.cast_at
         (cast_ways types.now (row_casts casts.now))) }
 {
-    let ways = cast_ways(alloc, types, casts)?;
+    let cast_at = WordList::from_slice(alloc, statics.cast_at.as_slice());
+    let (cast_at, ways) = both(cast_at, cast_ways(alloc, types, casts))?;
     Ok(Served {
         cast: set.cast,
         project: set.project,
@@ -118,7 +120,7 @@ fn served_by(
         fill: set.fill,
         multiply: set.multiply,
         divide: set.divide,
-        cast_at: WordList::from_slice(alloc, statics.cast_at.as_slice())?,
+        cast_at,
         ways,
     })
 }
@@ -172,15 +174,11 @@ pub fn lower_over<S: Scheme>(
     scheme: &S,
 ) -> Result<LowProgram, OutOfMemory>
     requires answer { flat.now.answer.0 < length types.now }
-    ensures procs { IfOk result (λ low. (answer : TypeRow) → row_at types.now flat.now.answer.0 ≡ Some answer
-        → let first : ℕ = suc (length flat.now.procs) in procs_of low.procs
-        ≡ lowered (with_casts (S.numbers_from scheme.now first) low.statics.cast_at
-        (cast_ways types.now (row_casts casts.now))) (flat_procs_of flat.now.procs)
-        flat.now.entry answer (S.procs_from scheme.now first)) }
+    ensures procs { IfOk result (HasProcs (S.procs_from scheme.now) (S.numbers_from scheme.now)
+        flat.now types.now (row_casts casts.now)) }
     ensures entry { IfOk result (λ low. low.entry ≡ length flat.now.procs) }
     ensures statics { IfOk result (λ low. low.statics ≡ statics) }
-    ensures closed { IfOk result (λ low. is_closed_flat (flat_procs_of flat.now.procs) flat.now.entry ≡ true
-        → is_closed (procs_of low.procs) low.entry ≡ true) }
+    ensures closed { IfOk result (StaysClosed flat.now) }
     ensures persists { IfOk result (λ low. GiveUpNowhere (procs_of low.procs)) }
     ensures narrow { IfOk result (λ low. all_narrow (flat_procs_of flat.now.procs) ≡ true) }
 {
@@ -215,15 +213,11 @@ pub fn lower_with<S: Scheme>(
     requires answer { flat.now.answer.0 < length types.now }
     requires fits { FitsTypes types.now coercions.now }
     requires casts { All (λ cast. cast.coercion.0 < length coercions.now.nodes) casts.now }
-    ensures procs { IfOk result (λ low. (answer : TypeRow) → row_at types.now flat.now.answer.0 ≡ Some answer
-        → let first : ℕ = suc (length flat.now.procs) in procs_of low.procs
-        ≡ lowered (with_casts (S.numbers_from scheme.now first) low.statics.cast_at
-        (cast_ways types.now (row_casts casts.now))) (flat_procs_of flat.now.procs)
-        flat.now.entry answer (S.procs_from scheme.now first)) }
+    ensures procs { IfOk result (HasProcs (S.procs_from scheme.now) (S.numbers_from scheme.now)
+        flat.now types.now (row_casts casts.now)) }
     ensures entry { IfOk result (λ low. low.entry ≡ length flat.now.procs) }
     ensures casts { IfOk result (λ low. length low.statics.cast_at ≡ length casts.now) }
-    ensures closed { IfOk result (λ low. is_closed_flat (flat_procs_of flat.now.procs) flat.now.entry ≡ true
-        → is_closed (procs_of low.procs) low.entry ≡ true) }
+    ensures closed { IfOk result (StaysClosed flat.now) }
     ensures persists { IfOk result (λ low. GiveUpNowhere (procs_of low.procs)) }
     ensures serves { IfOk result (λ low. S.covers scheme.now types.now coercions.now.nodes casts.now → (region : ℕ)
         → StaticsServe (S.meaning scheme.now) types.now (row_casts casts.now) FIRST_ADDRESS low.statics region

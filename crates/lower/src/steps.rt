@@ -1,10 +1,12 @@
 // Code without its end: steps that are gathered one after another, since code begins with its first step.
 
 ghost use Rattle.std.specs.Prelude.{◌≡◌, ◌++◌, ◌∷◌, [], IfOk, OnOk};
+ghost use Rattle.low_ir.specs.Procedures.{If};
 ghost use Rattle.low_ir.specs.Views.{code_of};
 ghost use Rattle.lower.specs.Steps.{put, ahead, Adds};
 
 use grift_base::lists::OutOfMemory;
+use grift_base::made::both_boxed;
 use low_ir::code::{LowCode, LowSource, LowSources, WordOp};
 use machine_words::conditions::Cond;
 use std::alloc::Global;
@@ -23,7 +25,7 @@ pub enum Step {
     Environment(u64, LowSource, LowSource, u32, u32),
     Call(u32, u32, LowSources),
     CallAt(u32, LowSource, LowSources),
-    If(Cond, LowSource, LowSource, LowCode, LowCode),
+    If(Cond, LowSource, LowSource, Box<LowCode>, Box<LowCode>),
 }
 
 impl Step {
@@ -44,11 +46,7 @@ impl Step {
             Step::Environment(number, a, b, d, e) => LowCode::Environment(number, a, b, d, e, rest),
             Step::Call(d, k, words) => LowCode::Call(d, k, words, rest),
             Step::CallAt(d, f, words) => LowCode::CallAt(d, f, words, rest),
-            Step::If(cond, a, b, one, other) => {
-                let one = Box::new(alloc, one)?;
-                let other = Box::new(alloc, other)?;
-                LowCode::If(cond, a, b, one, other, rest)
-            }
+            Step::If(cond, a, b, one, other) => LowCode::If(cond, a, b, one, other, rest),
         })
     }
 }
@@ -85,6 +83,20 @@ impl Steps {
     {
         self.append(step)?;
         Ok(())
+    }
+
+    /// Adds at the end what is done where a condition holds of two words, and what where not.
+    pub fn push_if(
+        &mut self,
+        test: (Cond, LowSource, LowSource),
+        branches: (LowCode, LowCode),
+    ) -> Result<(), OutOfMemory>
+        ensures { OnOk result (Adds self.old.steps.items self.new.steps.items
+            (If test.0 test.1 test.2 (code_of branches.0) (code_of branches.1))) }
+    {
+        let (cond, a, b) = test;
+        let (one, other) = both_boxed(self.alloc, branches.0, branches.1)?;
+        self.push(Step::If(cond, a, b, one, other))
     }
 
     /// Adds a step at the end, and hands on the code that is done behind it.

@@ -3,10 +3,4 @@
 #![tactic(auto)]
 
 #[cfg(test)]
-mod images;
-#[cfg(test)]
-mod merged;
-#[cfg(test)]
-mod piled;
-#[cfg(test)]
-mod programs;
+mod tests;

@@ -3,16 +3,4 @@
 #![tactic(auto)]
 
 #[cfg(test)]
-mod assembled;
-#[cfg(test)]
-mod blocks;
-#[cfg(test)]
-mod code;
-#[cfg(test)]
-mod images;
-#[cfg(test)]
-mod instructions;
-#[cfg(test)]
-mod machines;
-#[cfg(test)]
-mod memories;
+mod tests;

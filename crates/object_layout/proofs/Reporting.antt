@@ -1,5 +1,5 @@
 -- The report of a row with one object more.
-use Rattle.std.proofs.Common.{◌≡◌, ℕ, ◌+◌, ◌-◌, ◌*◌, ◌≤◌, List, [], ◌∷◌, ◌++◌, length, max, refl, sym, ap, ◌∙◌}
+use Rattle.std.proofs.Common.{◌≡◌, ℕ, ◌+◌, ◌-◌, ◌*◌, ◌≤◌, List, [], ◌∷◌, ◌++◌, length, max, sym, ap, ◌∙◌}
 use Rattle.std.proofs.Common.{arith, length-append, Bool, true, false}
 use Rattle.std.specs.Prelude.{if◌then◌else◌, ◌&&◌}
 use Rattle.object_layout.specs.declared.headers.Header.{Header}
@@ -22,21 +22,7 @@ fewer_both false b = omega arith
 same_report : (r other : SpaceReport) → r.bytes ≡ other.bytes → r.objects ≡ other.objects → r.proxies ≡ other.proxies →
     r.stacked ≡ other.stacked → r.highest ≡ other.highest → r ≡ other
 same_report r other b o p s t =
-    let one : r ≡ record {
-      bytes = r.bytes;
-      objects = r.objects;
-      proxies = r.proxies;
-      stacked = r.stacked;
-      highest = r.highest;
-    } = refl in
-    let two : other ≡ record {
-      bytes = other.bytes;
-      objects = other.objects;
-      proxies = other.proxies;
-      stacked = other.stacked;
-      highest = other.highest;
-    } = refl in
-    cc
+    λ i. record { bytes = b i; objects = o i; proxies = p i; stacked = s i; highest = t i }
 
 module _ (memory : Telling) (area : Area) where
   sum_over-one_more : (f : ℕ → Header → ℕ) (end from at : ℕ) (headers : List Header) (h : Header) →

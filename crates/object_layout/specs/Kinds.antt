@@ -8,28 +8,43 @@ use Rattle.object_layout.specs.declared.kinds.Kind.TheVariants.{UnitType, DynTyp
 use Rattle.object_layout.specs.declared.kinds.Wanted.{Wanted}
 use Rattle.object_layout.specs.declared.kinds.Wanted.TheVariants.{Anything, Target, Middle, Coercion, TypeAddress}
 
+abbrev pub is_within : ℕ → ℕ → ℕ → Bool
+is_within least most count = nat_le least count && nat_le count most
+
+-- how many words an object may have behind its header
+pub data Size : Type 0 where
+  Exactly : ℕ → Size
+  AtLeast : ℕ → Size
+  -- from the one to the other, both among them
+  Within : ℕ → ℕ → Size
+  AnyNumber : Size
+
+-- the number of a kind, and how many words its objects have
+abbrev pub kind_row : Kind → ℕ × Size
+kind_row Closure = (1, AtLeast 1)
+kind_row Proxy = (2, Exactly 2)
+kind_row Dyn = (3, Exactly 2)
+kind_row Tuple = (4, Within 1 8)
+kind_row Boxed = (5, Exactly 1)
+kind_row Vector = (6, AnyNumber)
+kind_row Fail = (8, Exactly 1)
+kind_row Fun = (9, Within 1 7)
+kind_row Tup = (10, Within 1 8)
+kind_row Ref = (11, Exactly 2)
+kind_row Vec = (12, Exactly 2)
+kind_row Inject = (13, Exactly 2)
+kind_row Project = (14, Exactly 3)
+kind_row IntType = (16, Exactly 0)
+kind_row BoolType = (17, Exactly 0)
+kind_row UnitType = (18, Exactly 0)
+kind_row DynType = (19, Exactly 0)
+kind_row FunType = (20, Within 1 7)
+kind_row TupleType = (21, Within 1 8)
+kind_row RefType = (22, Exactly 1)
+kind_row VecType = (23, Exactly 1)
+
 abbrev pub kind_number : Kind → ℕ
-kind_number Closure = 1
-kind_number Proxy = 2
-kind_number Dyn = 3
-kind_number Tuple = 4
-kind_number Boxed = 5
-kind_number Vector = 6
-kind_number Fail = 8
-kind_number Fun = 9
-kind_number Tup = 10
-kind_number Ref = 11
-kind_number Vec = 12
-kind_number Inject = 13
-kind_number Project = 14
-kind_number IntType = 16
-kind_number BoolType = 17
-kind_number UnitType = 18
-kind_number DynType = 19
-kind_number FunType = 20
-kind_number TupleType = 21
-kind_number RefType = 22
-kind_number VecType = 23
+kind_number kind = (kind_row kind).0
 
 abbrev pub all_kinds : List Kind
 all_kinds =
@@ -47,16 +62,12 @@ kind_of number = first_with number all_kinds
 
 -- ---- groups of kinds
 
+-- the kinds of types have the numbers from 16 to 23, those of coercions from 8 to 14
 abbrev pub is_type : Kind → Bool
-is_type IntType = true
-is_type BoolType = true
-is_type UnitType = true
-is_type DynType = true
-is_type FunType = true
-is_type TupleType = true
-is_type RefType = true
-is_type VecType = true
-is_type _ = false
+is_type kind = is_within 16 23 (kind_number kind)
+
+abbrev pub is_coercion : Kind → Bool
+is_coercion kind = is_within 8 14 (kind_number kind)
 
 -- the coercions that have a function, a tuple, a box or a vector on both sides
 abbrev pub is_middle : Kind → Bool
@@ -66,25 +77,6 @@ is_middle Ref = true
 is_middle Vec = true
 is_middle _ = false
 
-abbrev pub is_coercion : Kind → Bool
-is_coercion Fail = true
-is_coercion Fun = true
-is_coercion Tup = true
-is_coercion Ref = true
-is_coercion Vec = true
-is_coercion Inject = true
-is_coercion Project = true
-is_coercion _ = false
-
--- what a proxy may stand on: a closure, a proxy, a tuple, a box or a vector
-abbrev pub is_target : Kind → Bool
-is_target Closure = true
-is_target Proxy = true
-is_target Tuple = true
-is_target Boxed = true
-is_target Vector = true
-is_target _ = false
-
 -- the objects whose words after the header say nothing of other objects: closures, tuples, boxes and vectors
 abbrev pub is_free : Kind → Bool
 is_free Closure = true
@@ -93,34 +85,22 @@ is_free Boxed = true
 is_free Vector = true
 is_free _ = false
 
+-- what a proxy may stand on: a closure, a proxy, a tuple, a box or a vector
+abbrev pub is_target : Kind → Bool
+is_target Proxy = true
+is_target kind = is_free kind
+
 -- ---- words after the header
 
-abbrev pub is_within : ℕ → ℕ → ℕ → Bool
-is_within least most count = nat_le least count && nat_le count most
+abbrev pub allows : Size → ℕ → Bool
+allows (Exactly n) count = count == n
+allows (AtLeast n) count = nat_le n count
+allows (Within least most) count = is_within least most count
+allows AnyNumber count = true
 
 -- whether an object of this kind may have so many words
 abbrev pub allows_count : Kind → ℕ → Bool
-allows_count Closure count = nat_le 1 count
-allows_count Proxy count = count == 2
-allows_count Dyn count = count == 2
-allows_count Tuple count = is_within 1 8 count
-allows_count Boxed count = count == 1
-allows_count Vector count = true
-allows_count Fail count = count == 1
-allows_count Fun count = is_within 1 7 count
-allows_count Tup count = is_within 1 8 count
-allows_count Ref count = count == 2
-allows_count Vec count = count == 2
-allows_count Inject count = count == 2
-allows_count Project count = count == 3
-allows_count IntType count = count == 0
-allows_count BoolType count = count == 0
-allows_count UnitType count = count == 0
-allows_count DynType count = count == 0
-allows_count FunType count = is_within 1 7 count
-allows_count TupleType count = is_within 1 8 count
-allows_count RefType count = count == 1
-allows_count VecType count = count == 1
+allows_count kind count = allows (kind_row kind).1 count
 
 -- the words that an object of this kind and count has to have
 abbrev pub wanted_words : Kind → ℕ → List Wanted

@@ -89,6 +89,12 @@ module _ (memory : Telling) where
   highest at [] = 0
   highest at (wanted ∷ rest) = max (wanted_height wanted at) (highest (at + 8) rest)
 
+  -- the words behind the header of the object at `own` are what they have to be, and this is the greatest height of
+  -- them; none where one of them is not
+  abbrev pub TellsHeight : ℕ → List Wanted → Option ℕ → Type 0
+  TellsHeight own wanted None = ¬ AreWanted own (own + 8) wanted
+  TellsHeight own wanted (Some height) = AreWanted own (own + 8) wanted × (height ≡ highest (own + 8) wanted)
+
   -- ---- whole objects
 
   -- types stand in statics alone

@@ -5,9 +5,8 @@ ghost use Rattle.grift_base.specs.Words.{word_within};
 ghost use Rattle.object_layout.specs.declared.headers.Header.{Header as AHeader};
 ghost use Rattle.object_layout.specs.declared.kinds.Wanted.TheVariants.{Coercion};
 ghost use Rattle.object_layout.specs.Kinds.{allows_count, wanted_words};
-ghost use Rattle.object_layout.specs.Wholes.{IsWhole, header_at, kind_at, height_of, StandsWanted, AreWanted};
-ghost use Rattle.object_layout.specs.Wholes.{HasHeight};
-ghost use Rattle.object_layout.specs.Wholes.{wanted_height, highest};
+ghost use Rattle.object_layout.specs.Wholes.{IsWhole, header_at, kind_at, height_of, StandsWanted};
+ghost use Rattle.object_layout.specs.Wholes.{HasHeight, TellsHeight, wanted_height};
 
 use crate::headers::{Header, unpack};
 use crate::kinds::{Kind, Wanted};
@@ -80,13 +79,8 @@ fn height_of_wanted<W: Words>(memory: &W, own: u64, at: u64, wanted: Wanted) -> 
 // the words is no coercion.
 fn height_of_coercions<W: Words>(memory: &W, own: u64, count: u32) -> Option<u16>
     requires { own + (8 + 8 * count) < 2 ^ 64 }
-    ensures stand { IfSome result (λ height.
-        let told = word_within (W.first memory.now) (W.end memory.now) (W.word_at memory.now) in
-        AreWanted told own (own + 8) (replicate count Coercion)
-        × (height ≡ highest told (own + 8) (replicate count Coercion))) }
-    ensures none { IfNone result (¬ AreWanted
-        (word_within (W.first memory.now) (W.end memory.now) (W.word_at memory.now)) own (own + 8)
-        (replicate count Coercion)) }
+    ensures { TellsHeight (word_within (W.first memory.now) (W.end memory.now) (W.word_at memory.now)) own
+        (replicate count Coercion) result }
 {
     let mut highest = 0u16;
     let mut left = count;
@@ -102,13 +96,8 @@ fn height_of_coercions<W: Words>(memory: &W, own: u64, count: u32) -> Option<u16
 fn height_of_parts<W: Words>(memory: &W, own: u64, kind: Kind, count: u32) -> Option<u16>
     requires fits { own + (8 + 8 * count) < 2 ^ 64 }
     requires count { IsTrue (allows_count kind count) }
-    ensures stand { IfSome result (λ height.
-        let told = word_within (W.first memory.now) (W.end memory.now) (W.word_at memory.now) in
-        AreWanted told own (own + 8) (wanted_words kind count)
-        × (height ≡ highest told (own + 8) (wanted_words kind count))) }
-    ensures none { IfNone result (¬ AreWanted
-        (word_within (W.first memory.now) (W.end memory.now) (W.word_at memory.now)) own (own + 8)
-        (wanted_words kind count)) }
+    ensures { TellsHeight (word_within (W.first memory.now) (W.end memory.now) (W.word_at memory.now)) own
+        (wanted_words kind count) result }
 {
     let first = own + 8;
     match kind {

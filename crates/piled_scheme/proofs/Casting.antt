@@ -39,16 +39,16 @@ use Rattle.lower.specs.Emit.{cast_word}
 use Rattle.lower.specs.SchemeLaws.{Here, ReturnsAt, After, Aim, StopsNow, cast_leaves}
 use Rattle.lower.specs.Storage.{Filled}
 use Rattle.lower.proofs.Public.{AreSmall, stored_words, bytes_below, filled_more, carried_small, later, cells_later}
-use Rattle.lower.proofs.Public.{cells_below, at, Comes, Calm, Goal, left_of, here, computes, if_true, if_false, builds}
+use Rattle.lower.proofs.Public.{cells_below, at, left_of, here, computes, if_true, if_false, builds}
 use Rattle.piled_scheme.specs.Codes.{cast_proc, blame_part}
 use Rattle.piled_scheme.specs.Piling.{IsKnown, PlainType, BoxType, IsPiled, IsBoxCast, IsWrapped, piled_meaning, fate}
 use Rattle.piled_scheme.specs.Piling.{word_between, word_of, wrapper_object, wrapper_header, most_labels, AreStacked}
 use Rattle.piled_scheme.proofs.Deciding.{by_heads, kept_or_blamed, known_not_dyn, solid_decides}
 use Rattle.piled_scheme.proofs.Laws.{piled_laws, wrapper_more}
-use Rattle.piled_scheme.proofs.Looking.{inside as inside_of, calm as calm_of, ends, blamed}
+use Rattle.piled_scheme.proofs.Looking.{Walk, walk, ends, blamed}
 use Rattle.piled_scheme.proofs.Piles.{Carried, peeled, wrapped_more, wrapped_first}
-use Rattle.piled_scheme.proofs.Turns.{C, GoesOn, Decided, returned, no_more}
-use Rattle.piled_scheme.proofs.Walking.{Way, room_of, calm_at, goal, walks, blames}
+use Rattle.piled_scheme.proofs.Turns.{C, GoesOn, Decided, returned, no_more, speech}
+use Rattle.piled_scheme.proofs.Walking.{room_of, calm_at, walks, blames}
 use Rattle.piled_scheme.proofs.Reading.{is_some}
 
 -- ---- what known casts do
@@ -161,8 +161,7 @@ module _ (setting : Setting) (l : Layout) (procs : List Proc) (casts : List Type
     (placed : Placed setting l) (s : LowState) (number : ℕ) (places : List ℕ) (objects : List Object)
     (store : FlatStore TypeCast) (here_is : Here piled_meaning setting l procs casts m places objects store number
     (heap_of s)) (base : List (FlatFrame TypeCast)) where
-  abbrev Carries : FlatValue TypeCast → ℕ → Type 0
-  Carries v w = C setting l procs casts m s places objects store v w
+  open (speech setting l procs casts m s places objects store base cast_leaves) use {Carries, inside}
 
   abbrev Decides : Decision TypeCast → FlatValue TypeCast → LowState → Type 0
   Decides decision v te =
@@ -178,9 +177,6 @@ module _ (setting : Setting) (l : Layout) (procs : List Proc) (casts : List Type
   words_at w word action operand =
       set_local 3 operand (set_local 2 action (bind 0 (w ∷ word ∷ []) no_locals))
 
-  abbrev inside : List Code → Locals → Code → LowState
-  inside rests locals code = inside_of setting l procs casts m placed s objects rests locals code
-
   abbrev choices : Code
   choices =
       either Eq (Word 2) (Number 1)
@@ -188,18 +184,12 @@ module _ (setting : Setting) (l : Layout) (procs : List Proc) (casts : List Type
       either Eq (Word 3) (Number 0) (ReturnCode (Word 0))
       blame_part)
 
+  abbrev walking : (t : LowState) (asks need n' : ℕ) (X : ℕ → LowState → Type 0) → t.words ≡ s.words → Walk setting s
+  walking t asks need n' X same =
+      walk setting l procs casts m placed s objects t asks need number n' X same here_is.filled
+
   module _ (t : LowState) (asks need n' : ℕ) (X : ℕ → LowState → Type 0) (same : t.words ≡ s.words) where
-    abbrev Q : Goal
-    Q = goal setting l procs casts m s t asks need X
-
-    abbrev P : LowState → Type 0
-    P = Way setting l procs casts m s t asks number n'
-
-    abbrev To : LowState → Type 0
-    To v = Comes setting P Q v
-
-    calm : Calm setting P Q 6 s.waiting s.world (heap_of s)
-    calm = calm_of setting l procs casts m placed s objects t asks need number n' X same here_is.filled
+    open (walking t asks need n' X same) use {Q, P, To, calm}
 
     -- the word of the cast is taken apart
     opens : (w word action operand : ℕ) → compute And word 1 ≡ action → compute Srl word 1 ≡ operand
@@ -216,14 +206,13 @@ module _ (setting : Setting) (l : Layout) (procs : List Proc) (casts : List Type
   kept v w c =
       let X = λ (left : ℕ) (u : LowState). aim (Return v) base store (number + 0) left u in
       let te = begun w 0 in
+      let way = walking te 16 cast_leaves (number + 0) X refl in
       let last = inside (Done ∷ Done ∷ []) (words_at w 0 0 0) (ReturnCode (Word 0)) in (
         refl,
         walks setting l procs casts m s te 16 (0 + 896) cast_leaves number (number + 0) X
             (opens te 16 cast_leaves (number + 0) X refl w 0 0 0 refl refl
-            (if_false setting (P te 16 cast_leaves (number + 0) X refl) (Q te 16 cast_leaves (number + 0) X refl)
-            (calm te 16 cast_leaves (number + 0) X refl) 0 1 refl refl refl
-            (if_true setting (P te 16 cast_leaves (number + 0) X refl) (Q te 16 cast_leaves (number + 0) X refl)
-            (calm te 16 cast_leaves (number + 0) X refl) 0 0 refl refl refl
+            (if_false setting way.P way.Q way.calm 0 1 refl refl refl
+            (if_true setting way.P way.Q way.calm 0 0 refl refl refl
             (ends setting l procs casts m placed s objects te 16 cast_leaves number (number + 0) X refl here_is.filled
             (Done ∷ Done ∷ []) last.active.locals (ReturnCode (Word 0))
             (λ left le. (
@@ -245,12 +234,12 @@ module _ (setting : Setting) (l : Layout) (procs : List Proc) (casts : List Type
         let X = λ (left : ℕ) (u : LowState). StopsNow piled_meaning setting l procs casts m s number
         (EndsWith (Blame place)) u in
         let te = begun w (2 * suc label) in
+        let way = walking te 16 0 number X refl in
         walks setting l procs casts m s te 16 (0 + 896) 0 number number X
         (opens te 16 0 number X refl w (2 * suc label) 0 (suc label) (even_word (suc label)) (half_even (suc label))
-        (if_false setting (P te 16 0 number X refl) (Q te 16 0 number X refl) (calm te 16 0 number X refl) 0 1 refl refl
-        refl
-        (if_false setting (P te 16 0 number X refl) (Q te 16 0 number X refl) (calm te 16 0 number X refl) (suc label) 0
-        refl refl (is_some (suc label) (λ e. omega (arith, e)))
+        (if_false setting way.P way.Q way.calm 0 1 refl refl refl
+        (if_false setting way.P way.Q way.calm (suc label) 0 refl refl
+        (is_some (suc label) (λ e. omega (arith, e)))
         (blamed setting l procs casts m placed s objects te 16 0 number number X refl here_is.filled label small refl
         (λ left le. blames setting l procs casts m s number label place found objects (heap_of s) here_is.filled
         (Done ∷ Done ∷ []) _ refl)))))
@@ -339,19 +328,17 @@ module _ (setting : Setting) (l : Layout) (procs : List Proc) (casts : List Type
         let X = λ (left : ℕ) (u : LowState). aim (Return (RunWrap v cast)) base store (number + 1) left u in
         let te = begun w (1 + 2 * part) in
         let asks = wrap_charge m + 16 in
+        let way = walking te asks cast_leaves (number + 1) X refl in
         let locals = words_at w (1 + 2 * part) 1 part in
         let last = at s.world grown_heap s.waiting 6 (Done ∷ []) (set_local 4 s.alloc locals) (ReturnCode (Word 4)) in (
           refl,
           walks setting l procs casts m s te asks (0 + (896 + 64 * wrap_charge m))
               cast_leaves number (number + 1) X
               (opens te asks cast_leaves (number + 1) X refl w (1 + 2 * part) 1 part (odd_word part) (half_odd part)
-              (if_true setting (P te asks cast_leaves (number + 1) X refl) (Q te asks cast_leaves (number + 1) X refl)
-              (calm te asks cast_leaves (number + 1) X refl) 1 1 refl refl refl
-              (builds setting (P te asks cast_leaves (number + 1) X refl) (Q te asks cast_leaves (number + 1) X refl)
-              (calm te asks cast_leaves (number + 1) X refl) (wrapper_header ∷ w ∷ part ∷ []) refl (omega arith)
+              (if_true setting way.P way.Q way.calm 1 1 refl refl refl
+              (builds setting way.P way.Q way.calm (wrapper_header ∷ w ∷ part ∷ []) refl (omega arith)
               (omega arith)
-              (calm_at setting l procs casts m s te asks number (number + 1)
-              (Q te asks cast_leaves (number + 1) X refl) objects
+              (calm_at setting l procs casts m s te asks number (number + 1) way.Q objects
               (record { memory = s.memory; alloc = s.alloc; words = s.words + 3 })
               (record {
                 objects_stand = here_is.filled.objects_stand;
@@ -360,8 +347,7 @@ module _ (setting : Setting) (l : Layout) (procs : List Proc) (casts : List Type
                 fits = here_is.filled.fits;
                 keeps = here_is.filled.keeps;
               }) (omega arith) 6 (omega arith)) (omega arith)
-              (λ room. here setting (P te asks cast_leaves (number + 1) X refl)
-              (Q te asks cast_leaves (number + 1) X refl) last (
+              (λ room. here setting way.P way.Q last (
                 omega arith,
                 room_of setting l procs casts m s last refl (omega arith),
                 λ left le. (refl, le, made last refl refl refl refl refl room),

@@ -11,7 +11,7 @@ use Rattle.grift_base.specs.declared.verdicts.Trap.TheVariants.{Index}
 use Rattle.core_calc.specs.Account.{Measures}
 use Rattle.low_ir.specs.declared.code.LowSource.TheVariants.{Word, Number}
 use Rattle.low_ir.specs.Prices.{entering_some}
-use Rattle.low_ir.specs.Procedures.{Code, Done, Store, Return as ReturnCode, Proc as LowProc}
+use Rattle.low_ir.specs.Procedures.{Done, Store, Return as ReturnCode, Proc as LowProc}
 use Rattle.low_ir.specs.Steps.{Locals, no_locals, set_local}
 use Rattle.low_ir.specs.Run.{Setting, LowState, bind, entered}
 use Rattle.cast_modes.specs.Modes.{TypeCast, piling}
@@ -28,16 +28,15 @@ use Rattle.coer_core.specs.TurnPrices.{piled_prices}
 use Rattle.flat_ir.specs.Machine.{FlatValue, FlatFrame, FlatStore, FlatAfter, flat_arity, flat_entered, flat_operate}
 use Rattle.rt_cast.specs.States.{Placed, heap_of}
 use Rattle.lower.specs.CarriedValues.{AreCarried}
-use Rattle.lower.specs.SchemeLaws.{After, Aim, operator_leaves, at_or_zero}
+use Rattle.lower.specs.SchemeLaws.{After, operator_leaves, at_or_zero}
 use Rattle.lower.specs.Storage.{Filled}
-use Rattle.lower.proofs.Public.{positive_is, negative_is, element_past}
+use Rattle.lower.proofs.Public.{positive_is, negative_is, element_past, too_many}
 use Rattle.lower.proofs.Public.{at, here, if_false, stores, left_of}
 use Rattle.piled_scheme.specs.Codes.{read_proc, write_proc, in_vector}
 use Rattle.piled_scheme.specs.Piling.{piled_meaning}
-use Rattle.piled_scheme.proofs.Looking.{inside as inside_of}
 use Rattle.piled_scheme.proofs.Piles.{Carried, no_vector, no_cell}
 use Rattle.piled_scheme.proofs.Storing.{after, may as may_write, end as end_of, wrote}
-use Rattle.piled_scheme.proofs.Turns.{FilledAt, CellsAt, C, GoesOn, no_more}
+use Rattle.piled_scheme.proofs.Turns.{CellsAt, no_more, speech}
 use Rattle.piled_scheme.proofs.Vectors.{element_inside, entering_most, counted, short, within, outside, trapped}
 use Rattle.piled_scheme.proofs.Vectors.{element_read, length_read, P, Q, To, calm}
 use Rattle.piled_scheme.proofs.Walking.{Way, room_of, on_way, walks, stays}
@@ -46,17 +45,11 @@ module _ (setting : Setting) (l : Layout) (procs : List Proc) (casts : List Type
     (placed : Placed setting l) (begins : l.region ≡ setting.region) (s : LowState) (places : List ℕ)
     (objects : List Object) (store : FlatStore TypeCast)
     (cells : CellsAt setting l procs casts m s places objects store s) (base : List (FlatFrame TypeCast)) where
-  abbrev Filling : ℕ → Type 0
-  Filling n = FilledAt setting l procs casts m s places objects store n s
-
-  abbrev Carries : FlatValue TypeCast → ℕ → Type 0
-  Carries v w = C setting l procs casts m s places objects store v w
+  open (speech setting l procs casts m s places objects store base operator_leaves)
+      use {Filling, Carries, Going, inside}
 
   abbrev AllCarried : List (FlatValue TypeCast) → List ℕ → Type 0
   AllCarried vs ws = AreCarried l setting.address procs piled_meaning places objects (in_row vs) ws
-
-  abbrev Going : ℕ → Aim piled_meaning setting l procs casts m
-  Going i = GoesOn setting l procs casts m s places objects store base operator_leaves i
 
   abbrev Does : ℕ → FlatAfter TypeCast → ℕ → ℕ → LowState → Type 0
   Does i x credit n v =
@@ -65,9 +58,6 @@ module _ (setting : Setting) (l : Layout) (procs : List Proc) (casts : List Type
 
   abbrev turned : PrimOp → List (FlatValue TypeCast) → List (FlatFrame TypeCast) → FlatAfter TypeCast
   turned operator vs frames = flat_operate procs (piling l.types casts) store s.world operator vs frames
-
-  abbrev inside : List Code → Locals → Code → LowState
-  inside rests locals code = inside_of setting l procs casts m placed s objects rests locals code
 
   -- ---- an element is written
 
@@ -282,18 +272,6 @@ module _ (setting : Setting) (l : Layout) (procs : List Proc) (casts : List Type
     abbrev reading_at : ℕ → ℕ → ℕ → LowState
     reading_at which a i = entered s (read_proc unbox) (which ∷ a ∷ i ∷ [])
 
-    -- three operands are none of this operator's
-    too_many : (cell : ℕ) (index x : FlatValue TypeCast) (more : List (FlatValue TypeCast))
-        → turned VectorRef (RunLoc cell true ∷ index ∷ x ∷ more) base ≡ NoNext
-    too_many cell (RunInt n) x more = refl
-    too_many cell (RunBool b) x more = refl
-    too_many cell RunUnit x more = refl
-    too_many cell (RunFun code captured) x more = refl
-    too_many cell (RunTuple values) x more = refl
-    too_many cell (RunLoc other b) x more = refl
-    too_many cell (RunWrap y z) x more = refl
-    too_many cell (RunInject y z) x more = refl
-
     by_index : (cell a : ℕ) → Carries (RunLoc cell true) a → (index : FlatValue TypeCast) (wi : ℕ) → Carries index wi
         → (n : ℕ) → Filling n → (credit : ℕ)
         → Does 0 (turned VectorRef (RunLoc cell true ∷ index ∷ []) base) credit n (reading_at 1 a wi)
@@ -306,7 +284,8 @@ module _ (setting : Setting) (l : Layout) (procs : List Proc) (casts : List Type
         → (i : ℕ) × Does i (turned VectorRef vs base) 0 n (reading_at 1 (at_or_zero ws 0) (at_or_zero ws 1))
     reads_for (RunLoc cell true ∷ index ∷ x ∷ more) ws c n filled = (
       0,
-      subst (λ y. Does 0 y 0 n (reading_at 1 (at_or_zero ws 0) (at_or_zero ws 1))) (sym (too_many cell index x more))
+      subst (λ y. Does 0 y 0 n (reading_at 1 (at_or_zero ws 0) (at_or_zero ws 1))) (sym
+          (too_many procs (piling l.types casts) store s.world base cell index x more))
           refl,
     )
     reads_for (RunLoc cell true ∷ index ∷ []) [] c n filled = absurd c

@@ -27,6 +27,13 @@ use Rattle.piled_scheme.proofs.Walking.{Way, room_of, calm_at, goal}
 subtracted : (label : ℕ) → label < most_labels → compute Sub (suc label) 1 ≡ label
 subtracted label small = omega (arith, small)
 
+-- a walk from a state: what is to hold at its end and on the way, and from which states it comes to its end
+pub record Walk (setting : Setting) (s : LowState) : Type 1 where
+  pub Q : Goal
+  pub P : LowState → Type 0
+  pub To : LowState → Type 0
+  pub calm : Calm setting P Q 6 s.waiting s.world (heap_of s)
+
 module _ (setting : Setting) (l : Layout) (procs : List Proc) (casts : List TypeCast) (m : Measures)
     (placed : Placed setting l) (s : LowState) (objects : List Object) where
   abbrev pub inside : List Code → Locals → Code → LowState
@@ -48,6 +55,9 @@ module _ (setting : Setting) (l : Layout) (procs : List Proc) (casts : List Type
     pub calm : Calm setting P Q 6 s.waiting s.world (heap_of s)
     calm = calm_at setting l procs casts m s t asks n n' Q objects (heap_of s) filled (omega (arith, same)) 6
         (omega arith)
+
+    abbrev pub walk : Walk setting s
+    walk = record { Q = Q; P = P; To = To; calm = calm }
 
     -- it ends here
     pub ends : (rests : List Code) (locals : Locals) (code : Code)

@@ -12,7 +12,7 @@ use Rattle.machine_words.specs.declared.conditions.Cond.TheVariants.{Eq}
 use Rattle.machine_words.specs.Memory.{load_bytes}
 use Rattle.low_ir.specs.declared.code.LowSource.TheVariants.{Word, Number}
 use Rattle.low_ir.specs.Prices.{entering_some}
-use Rattle.low_ir.specs.Procedures.{Code, Done, Return as ReturnCode, TailCall}
+use Rattle.low_ir.specs.Procedures.{Done, Return as ReturnCode, TailCall}
 use Rattle.low_ir.specs.Steps.{Locals, no_locals, set_local, may_load}
 use Rattle.low_ir.specs.Run.{Setting, LowState, bind, entered}
 use Rattle.cast_modes.specs.Modes.{TypeCast, piling}
@@ -31,16 +31,16 @@ use Rattle.rt_cast.specs.States.{Placed, heap_of}
 use Rattle.rt_cast.specs.Objects.{HoldsWords}
 use Rattle.lower.specs.CarriedValues.{AreCarried, CellHeld}
 use Rattle.lower.specs.Storage.{Filled}
-use Rattle.lower.specs.SchemeLaws.{After, Aim, StopsNow, Walks, operator_leaves}
+use Rattle.lower.specs.SchemeLaws.{After, StopsNow, Walks, operator_leaves}
 use Rattle.lower.proofs.Public.{cell_of, cell_word_there}
-use Rattle.lower.proofs.Public.{Comes, Calm, Goal, loads, if_true, if_false, sets_word, left_of}
+use Rattle.lower.proofs.Public.{loads, if_true, if_false, sets_word, left_of}
 use Rattle.piled_scheme.specs.Codes.{unbox_proc, read_proc}
 use Rattle.piled_scheme.specs.Piling.{piled_meaning, wrapper_object, wrapper_header, most_labels}
 use Rattle.piled_scheme.proofs.Deciding.{IsPlain, read_cast, read_plain, reads_by}
-use Rattle.piled_scheme.proofs.Looking.{inside as inside_of, calm as calm_of, ends, loads_word, looked, blamed}
+use Rattle.piled_scheme.proofs.Looking.{Walk, walk, ends, loads_word, looked, blamed}
 use Rattle.piled_scheme.proofs.Piles.{peeled}
-use Rattle.piled_scheme.proofs.Turns.{FilledAt, CellsAt, C, GoesOn, returned, plain_turn, keeps, blames_it, no_more}
-use Rattle.piled_scheme.proofs.Walking.{Way, room_of, on_way, goal, walks, walks_by, stays, tail_calls}
+use Rattle.piled_scheme.proofs.Turns.{FilledAt, CellsAt, C, returned, plain_turn, keeps, blames_it, no_more, speech}
+use Rattle.piled_scheme.proofs.Walking.{Way, room_of, on_way, walks, walks_by, stays, tail_calls}
 use Rattle.piled_scheme.proofs.Walking.{tail_calls_on, blames}
 
 -- what casts that wait do with what is read: the part of the first that doesn't keep it, and 0 where all keep it
@@ -64,14 +64,8 @@ module _ (setting : Setting) (l : Layout) (procs : List Proc) (casts : List Type
     (placed : Placed setting l) (own : ℕ) (there : slice_get setting.procs own ≡ Some (unbox_proc own))
     (s : LowState) (places : List ℕ) (objects : List Object) (store : FlatStore TypeCast)
     (cells : CellsAt setting l procs casts m s places objects store s) (base : List (FlatFrame TypeCast)) where
-  abbrev Filling : ℕ → Type 0
-  Filling n = FilledAt setting l procs casts m s places objects store n s
-
-  abbrev Carries : FlatValue TypeCast → ℕ → Type 0
-  Carries v w = C setting l procs casts m s places objects store v w
-
-  abbrev Going : ℕ → Aim piled_meaning setting l procs casts m
-  Going i = GoesOn setting l procs casts m s places objects store base operator_leaves i
+  open (speech setting l procs casts m s places objects store base operator_leaves)
+      use {Filling, Carries, Going, inside}
 
   -- the procedure begins with an address and what was found so far
   abbrev looks_at : ℕ → ℕ → LowState
@@ -79,9 +73,6 @@ module _ (setting : Setting) (l : Layout) (procs : List Proc) (casts : List Type
 
   abbrev words_at : ℕ → ℕ → Locals
   words_at w failing = bind 0 (w ∷ failing ∷ []) no_locals
-
-  abbrev inside : List Code → Locals → Code → LowState
-  inside rests locals code = inside_of setting l procs casts m placed s objects rests locals code
 
   -- what is in the box is returned
   abbrev given_at : ℕ → ℕ → LowState
@@ -95,21 +86,16 @@ module _ (setting : Setting) (l : Layout) (procs : List Proc) (casts : List Type
       inside (Done ∷ Done ∷ []) (set_local 3 label (set_local 3 (suc label) (set_local 2 5 (set_local 2 (header 5 0 1)
       (words_at a (suc label)))))) (blame_code (Word 3))
 
+  abbrev walking : (t : LowState) (asks need n n' : ℕ) (X : ℕ → LowState → Type 0) → t.words ≡ s.words → Filling n
+      → Walk setting s
+  walking t asks need n n' X same filled =
+      walk setting l procs casts m placed s objects t asks need n n' X same filled
+
   -- told the state in which the turn begins, what it asks for, how much is to be left, the numbers of wrap steps,
   -- and where the turn ends
   module _ (t : LowState) (asks need n n' : ℕ) (X : ℕ → LowState → Type 0) (same : t.words ≡ s.words)
       (filled : FilledAt setting l procs casts m s places objects store n s) where
-    abbrev Q : Goal
-    Q = goal setting l procs casts m s t asks need X
-
-    abbrev P : LowState → Type 0
-    P = Way setting l procs casts m s t asks n n'
-
-    abbrev To : LowState → Type 0
-    To u = Comes setting P Q u
-
-    calm : Calm setting P Q 6 s.waiting s.world (heap_of s)
-    calm = calm_of setting l procs casts m placed s objects t asks need n n' X same filled
+    open (walking t asks need n n' X same filled) use {Q, P, To, calm}
 
     -- a wrapper is passed: what it does counts where it doesn't keep what is read
     passes : (w inner part failing : ℕ) → There l objects w (wrapper_object inner part)
@@ -445,14 +431,14 @@ module _ (setting : Setting) (l : Layout) (procs : List Proc) (casts : List Type
           λ n filled.
               let X = λ (left : ℕ) (u : LowState). Going (suc r.0) (Return v)
               (PrimFrame Unbox [] ∷ CastFrame read ∷ base) store (n + 0) left u in
-              let within = record (Q read_at 0 0 n (n + 0) X refl filled) { extra = 300 } in
-              let ready = calm read_at 0 0 n (n + 0) X refl filled in
+              let within = record (walking read_at 0 0 n (n + 0) X refl filled).Q { extra = 300 } in
+              let ready = (walking read_at 0 0 n (n + 0) X refl filled).calm in
               subst (λ o. Operates (suc r.0) (on_some o (λ part. On (Return v)
               (PrimFrame Unbox [] ∷ CastFrame part ∷ base) store s.world)) 0 n read_at)
               (sym (reads_by l.types casts cast i.part i.is)) (
                 refl,
                 walks_by setting l procs casts m s read_at 0 (0 + 896) (left_of setting read_at + 300) 0 n (n + 0) X
-                    (if_true setting (P read_at 0 0 n (n + 0) X refl filled) within ready 0 0 refl refl refl
+                    (if_true setting (walking read_at 0 0 n (n + 0) X refl filled).P within ready 0 0 refl refl refl
                     (tail_calls_on setting l procs casts m s read_at 0 n (n + 0) within ready (w ∷ 0 ∷ [])
                     (unbox_proc own) (left_of setting (looks_at w 0) + 0) refl there refl
                     (let y = cost w 0 in omega (arith, y))

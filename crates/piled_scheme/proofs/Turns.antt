@@ -5,8 +5,9 @@ use Rattle.std.specs.Prelude.{if◌then◌else◌}
 use Rattle.grift_base.specs.Types.{same_head}
 use Rattle.core_calc.specs.Account.{Measures}
 use Rattle.low_ir.specs.declared.code.LowSource.{LowSource}
-use Rattle.low_ir.specs.Procedures.{Return as ReturnCode}
+use Rattle.low_ir.specs.Procedures.{Code, Return as ReturnCode}
 use Rattle.low_ir.specs.Run.{Setting, LowState, word_of}
+use Rattle.low_ir.specs.Steps.{Locals}
 use Rattle.cast_modes.specs.Modes.{TypeCast, Decision, Keeping, Blaming, NoCast, piling, fits}
 use Rattle.cast_modes.specs.RunValues.{shape_of}
 use Rattle.cast_modes.specs.ValueSteps.{make, decision_wraps}
@@ -22,12 +23,22 @@ use Rattle.rt_cast.specs.States.{heap_of}
 use Rattle.lower.specs.Storage.{Filled}
 use Rattle.lower.specs.CarriedValues.{CellsHeld}
 use Rattle.lower.specs.SchemeLaws.{Here, ReturnsAt, Returns, After, Goes, Aim}
+use Rattle.lower.proofs.Public.{at}
 use Rattle.piled_scheme.specs.Piling.{piled_meaning, fate}
 use Rattle.piled_scheme.proofs.Deciding.{IsPlain, plain_decides, kept_or_blamed}
 use Rattle.piled_scheme.proofs.Piles.{Carried}
 
 pub no_more : (n : ℕ) → n ≡ n + 0
 no_more n = omega arith
+
+-- what the laws of a procedure that begins in a state speak of: that storage is as it has to be after so many wrap
+-- steps, which word stands for a value, how the turns go on, and the states in which the procedure is
+pub record Speech (setting : Setting) (l : Layout) (procs : List Proc) (casts : List TypeCast) (m : Measures)
+    : Type 1 where
+  pub Filling : ℕ → Type 0
+  pub Carries : FlatValue TypeCast → ℕ → Type 0
+  pub Going : ℕ → Aim piled_meaning setting l procs casts m
+  pub inside : List Code → Locals → Code → LowState
 
 module _ (setting : Setting) (l : Layout) (procs : List Proc) (casts : List TypeCast) (m : Measures)
     (s : LowState) (places : List ℕ) (objects : List Object) (store : FlatStore TypeCast) where
@@ -69,6 +80,14 @@ module _ (setting : Setting) (l : Layout) (procs : List Proc) (casts : List Type
 
     abbrev pub GoesOn : ℕ → Aim piled_meaning setting l procs casts m
     GoesOn i = Goes piled_meaning setting l procs casts m s aim i
+
+    abbrev pub speech : Speech setting l procs casts m
+    speech = record {
+      Filling = λ n. FilledAt n s;
+      Carries = C;
+      Going = GoesOn;
+      inside = λ rests locals code. at s.world (heap_of s) s.waiting 6 rests locals code;
+    }
 
     -- what a decision comes to, whatever the frames behind it
     abbrev pub Decided : ℕ → List (FlatFrame TypeCast) → FlatValue TypeCast → Decision TypeCast → ℕ → ℕ → LowState

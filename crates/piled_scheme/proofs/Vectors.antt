@@ -34,7 +34,7 @@ use Rattle.rt_cast.specs.States.{Placed, heap_of}
 use Rattle.rt_cast.proofs.Public.{count_read, lt_false}
 use Rattle.low_ir.specs.Codes.{trap_code}
 use Rattle.lower.specs.CarriedValues.{AreCarried, CellHeld}
-use Rattle.lower.specs.SchemeLaws.{After, Aim, StopsNow, operator_leaves}
+use Rattle.lower.specs.SchemeLaws.{After, StopsNow, operator_leaves}
 use Rattle.lower.proofs.Public.{as_many}
 use Rattle.lower.proofs.Public.{cell_of, there_is}
 use Rattle.lower.proofs.Public.{stands, may}
@@ -45,8 +45,8 @@ use Rattle.lower.proofs.Public.{lt_true}
 use Rattle.piled_scheme.specs.Codes.{read_proc, in_vector}
 use Rattle.piled_scheme.specs.Piling.{piled_meaning}
 use Rattle.piled_scheme.proofs.Laws.{piled_laws}
-use Rattle.piled_scheme.proofs.Looking.{inside as inside_of, calm as calm_of, ends, loads_header}
-use Rattle.piled_scheme.proofs.Turns.{FilledAt, CellsAt, C, GoesOn, returned, no_more}
+use Rattle.piled_scheme.proofs.Looking.{calm as calm_of, ends, loads_header}
+use Rattle.piled_scheme.proofs.Turns.{FilledAt, CellsAt, C, returned, no_more, speech}
 use Rattle.piled_scheme.proofs.Walking.{Way, goal, walks, traps}
 
 pub element_inside : {A : Type 0} (xs : List A) (i : ℕ) (x : A) → slice_get xs i ≡ Some x → i < length xs
@@ -71,14 +71,8 @@ module _ (setting : Setting) (l : Layout) (procs : List Proc) (casts : List Type
     (placed : Placed setting l) (begins : l.region ≡ setting.region) (s : LowState) (places : List ℕ)
     (objects : List Object) (store : FlatStore TypeCast)
     (cells : CellsAt setting l procs casts m s places objects store s) (base : List (FlatFrame TypeCast)) where
-  abbrev Filling : ℕ → Type 0
-  Filling n = FilledAt setting l procs casts m s places objects store n s
-
-  abbrev Carries : FlatValue TypeCast → ℕ → Type 0
-  Carries v w = C setting l procs casts m s places objects store v w
-
-  abbrev Going : ℕ → Aim piled_meaning setting l procs casts m
-  Going i = GoesOn setting l procs casts m s places objects store base operator_leaves i
+  open (speech setting l procs casts m s places objects store base operator_leaves)
+      use {Filling, Carries, Going, inside}
 
   abbrev pub Operates : ℕ → FlatAfter TypeCast → ℕ → ℕ → LowState → Type 0
   Operates i x credit n v =
@@ -87,9 +81,6 @@ module _ (setting : Setting) (l : Layout) (procs : List Proc) (casts : List Type
 
   abbrev pub turn : PrimOp → List (FlatValue TypeCast) → FlatAfter TypeCast
   turn operator vs = flat_operate procs (piling l.types casts) store s.world operator vs base
-
-  abbrev inside : List Code → Locals → Code → LowState
-  inside rests locals code = inside_of setting l procs casts m placed s objects rests locals code
 
   pub grown_number : (n : ℕ) → Filling n → Filling (n + 0)
   grown_number n filled = subst Filling (no_more n) filled

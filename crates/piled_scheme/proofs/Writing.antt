@@ -8,7 +8,7 @@ use Rattle.run_laws.specs.Runs.{Verdict as EndsWith}
 use Rattle.core_calc.specs.Account.{Measures}
 use Rattle.low_ir.specs.declared.code.LowSource.TheVariants.{Word, Number}
 use Rattle.low_ir.specs.Prices.{entering_some}
-use Rattle.low_ir.specs.Procedures.{Code, Done, Return as ReturnCode}
+use Rattle.low_ir.specs.Procedures.{Done, Return as ReturnCode}
 use Rattle.low_ir.specs.Steps.{Locals, no_locals, set_local}
 use Rattle.low_ir.specs.Run.{Setting, LowState, bind, entered}
 use Rattle.cast_modes.specs.Modes.{TypeCast, piling}
@@ -24,21 +24,21 @@ use Rattle.flat_ir.specs.Machine.{FlatValue, FlatFrame, FlatStore, FlatAfter, fl
 use Rattle.flat_ir.specs.Machine.{flat_operate}
 use Rattle.low_ir.specs.Codes.{blame_code}
 use Rattle.rt_cast.specs.States.{Placed, heap_of}
-use Rattle.lower.specs.SchemeLaws.{After, Aim, StopsNow, Walks, operator_leaves}
+use Rattle.lower.specs.SchemeLaws.{After, StopsNow, Walks, operator_leaves}
 use Rattle.lower.specs.Storage.{Filled}
 use Rattle.lower.proofs.Public.{as_many}
 use Rattle.lower.proofs.Public.{cell_of, there_is}
-use Rattle.lower.proofs.Public.{at, Comes, Calm, Goal, here, if_true, if_false, stores, left_of}
+use Rattle.lower.proofs.Public.{at, here, if_true, if_false, stores, left_of}
 use Rattle.piled_scheme.specs.Codes.{set_proc, write_proc}
 use Rattle.piled_scheme.specs.Piling.{IsWrapped, piled_meaning, wrapper_object, wrapper_header, most_labels}
 use Rattle.piled_scheme.proofs.Deciding.{IsPlain, written_cast, written_plain, writes_by}
 use Rattle.piled_scheme.proofs.Laws.{piled_laws}
-use Rattle.piled_scheme.proofs.Looking.{inside as inside_of, calm as calm_of, loads_word, looked, blamed}
+use Rattle.piled_scheme.proofs.Looking.{Walk, walk, loads_word, looked, blamed}
 use Rattle.piled_scheme.proofs.Piles.{Carried, peeled}
 use Rattle.piled_scheme.proofs.Reading.{tested, is_some}
 use Rattle.piled_scheme.proofs.Storing.{after, may, end, wrote}
-use Rattle.piled_scheme.proofs.Turns.{FilledAt, CellsAt, C, GoesOn, plain_turn, keeps, blames_it, no_more}
-use Rattle.piled_scheme.proofs.Walking.{Way, room_of, on_way, goal, walks, stays, tail_calls, blames}
+use Rattle.piled_scheme.proofs.Turns.{FilledAt, CellsAt, C, plain_turn, keeps, blames_it, no_more, speech}
+use Rattle.piled_scheme.proofs.Walking.{Way, room_of, on_way, walks, stays, tail_calls, blames}
 
 module _ (setting : Setting) (l : Layout) (procs : List Proc) (casts : List TypeCast) (m : Measures)
     (placed : Placed setting l) (begins : l.region ≡ setting.region) (own : ℕ)
@@ -46,14 +46,8 @@ module _ (setting : Setting) (l : Layout) (procs : List Proc) (casts : List Type
     (objects : List Object) (store : FlatStore TypeCast)
     (cells : CellsAt setting l procs casts m s places objects store s) (base : List (FlatFrame TypeCast))
     (u : FlatValue TypeCast) (wu : ℕ) (carried : C setting l procs casts m s places objects store u wu) where
-  abbrev Filling : ℕ → Type 0
-  Filling n = FilledAt setting l procs casts m s places objects store n s
-
-  abbrev Carries : FlatValue TypeCast → ℕ → Type 0
-  Carries v w = C setting l procs casts m s places objects store v w
-
-  abbrev Going : ℕ → Aim piled_meaning setting l procs casts m
-  Going i = GoesOn setting l procs casts m s places objects store base operator_leaves i
+  open (speech setting l procs casts m s places objects store base operator_leaves)
+      use {Filling, Carries, Going, inside}
 
   -- the procedure begins with an address
   abbrev writes_at : ℕ → LowState
@@ -61,9 +55,6 @@ module _ (setting : Setting) (l : Layout) (procs : List Proc) (casts : List Type
 
   abbrev words_at : ℕ → Locals
   words_at w = bind 0 (w ∷ wu ∷ []) no_locals
-
-  abbrev inside : List Code → Locals → Code → LowState
-  inside rests locals code = inside_of setting l procs casts m placed s objects rests locals code
 
   -- a wrapper that was looked at, with what it does
   abbrev passing : ℕ → ℕ → ℕ → Locals
@@ -75,19 +66,14 @@ module _ (setting : Setting) (l : Layout) (procs : List Proc) (casts : List Type
   blamed_at w inner label =
       inside (Done ∷ Done ∷ []) (set_local 3 label (passing w inner (suc label))) (blame_code (Word 3))
 
+  abbrev walking : (t : LowState) (asks need n n' : ℕ) (X : ℕ → LowState → Type 0) → t.words ≡ s.words → Filling n
+      → Walk setting s
+  walking t asks need n n' X same filled =
+      walk setting l procs casts m placed s objects t asks need n n' X same filled
+
   module _ (t : LowState) (asks need n n' : ℕ) (X : ℕ → LowState → Type 0) (same : t.words ≡ s.words)
       (filled : FilledAt setting l procs casts m s places objects store n s) where
-    abbrev Q : Goal
-    Q = goal setting l procs casts m s t asks need X
-
-    abbrev P : LowState → Type 0
-    P = Way setting l procs casts m s t asks n n'
-
-    abbrev To : LowState → Type 0
-    To v = Comes setting P Q v
-
-    calm : Calm setting P Q 6 s.waiting s.world (heap_of s)
-    calm = calm_of setting l procs casts m placed s objects t asks need n n' X same filled
+    open (walking t asks need n n' X same filled) use {Q, P, To, calm}
 
     -- a wrapper that keeps what is written is passed
     passes : (w inner : ℕ) → There l objects w (wrapper_object inner 0)
@@ -157,35 +143,31 @@ module _ (setting : Setting) (l : Layout) (procs : List Proc) (casts : List Type
           store s.world cell (u ∷ []) base)) credit n (writes_at w)
 
       one_value : (x : FlatValue TypeCast) → slice_get store cell ≡ Some (x ∷ []) → Wrote (Some (x ∷ []))
-      one_value x e = (
-        refl,
-        walks setting l procs casts m s (writes_at w) 0 (credit + 896) operator_leaves n (n + 0) X
-            (looked setting l procs casts m placed s objects (writes_at w) 0 operator_leaves n (n + 0) X refl filled w
-            (Cell (header 5 0 1) 1) stands refl 5 refl
-            (if_false setting (P (writes_at w) 0 operator_leaves n (n + 0) X refl filled)
-            (Q (writes_at w) 0 operator_leaves n (n + 0) X refl filled)
-            (calm (writes_at w) 0 operator_leaves n (n + 0) X refl filled) 5 25 refl refl refl
-            (stores setting (P (writes_at w) 0 operator_leaves n (n + 0) X refl filled)
-            (Q (writes_at w) 0 operator_leaves n (n + 0) X refl filled)
-            (calm (writes_at w) 0 operator_leaves n (n + 0) X refl filled) w wu refl refl
-            (may setting l procs casts m placed begins s places objects store cells n filled cell w (x ∷ []) e c.1 0 u
-            wu carried (omega arith) (w + 8) (omega arith))
-            (end setting l procs casts m placed begins s places objects store cells n filled cell w (x ∷ []) e c.1 0 u
-            wu carried (omega arith) (w + 8) (omega arith))
-            (here setting (P (writes_at w) 0 operator_leaves n (n + 0) X refl filled)
-            (Q (writes_at w) 0 operator_leaves n (n + 0) X refl filled) stored (
-              omega arith,
-              room_of setting l procs casts m s stored refl (omega arith),
-              λ left le. (
-                refl,
-                le,
-                wrote setting l procs casts m placed begins s places objects store cells n filled cell w (x ∷ []) e c.1
-                    0 u wu carried (omega arith) (w + 8) (omega arith) stored (n + 0) (sym (no_more n)) refl refl refl
+      one_value x e =
+          let way = walking (writes_at w) 0 operator_leaves n (n + 0) X refl filled in (
+            refl,
+            walks setting l procs casts m s (writes_at w) 0 (credit + 896) operator_leaves n (n + 0) X
+                (looked setting l procs casts m placed s objects (writes_at w) 0 operator_leaves n (n + 0) X refl filled
+                w (Cell (header 5 0 1) 1) stands refl 5 refl
+                (if_false setting way.P way.Q way.calm 5 25 refl refl refl
+                (stores setting way.P way.Q way.calm w wu refl refl
+                (may setting l procs casts m placed begins s places objects store cells n filled cell w (x ∷ []) e c.1 0
+                u wu carried (omega arith) (w + 8) (omega arith))
+                (end setting l procs casts m placed begins s places objects store cells n filled cell w (x ∷ []) e c.1 0
+                u wu carried (omega arith) (w + 8) (omega arith))
+                (here setting way.P way.Q stored (
+                  omega arith,
+                  room_of setting l procs casts m s stored refl (omega arith),
+                  λ left le. (
                     refl,
-              ),
-            )))))
-            (let z = cost w in omega (arith, z)),
-      )
+                    le,
+                    wrote setting l procs casts m placed begins s places objects store cells n filled cell w (x ∷ []) e
+                        c.1 0 u wu carried (omega arith) (w + 8) (omega arith) stored (n + 0) (sym (no_more n)) refl
+                        refl refl refl,
+                  ),
+                )))))
+                (let z = cost w in omega (arith, z)),
+          )
         where
           X : ℕ → LowState → Type 0
           X left v = Going 0 (Return RunUnit) base (slice_set store cell (u ∷ [])) (n + 0) left v
@@ -347,12 +329,11 @@ module _ (setting : Setting) (l : Layout) (procs : List Proc) (casts : List Type
           b.0,
           λ n filled.
               let X = λ (left : ℕ) (y : LowState). Going b.0 (Return u) (frames v cast w c) store (n + 0) left y in
-              let ready = calm write_at 0 0 n (n + 0) X refl filled in
+              let way = walking write_at 0 0 n (n + 0) X refl filled in
               goes_in v cast w c write_at b n filled 0
               (walks setting l procs casts m s write_at 0 (0 + 896) 0 n (n + 0) X
-              (if_true setting (P write_at 0 0 n (n + 0) X refl filled) (Q write_at 0 0 n (n + 0) X refl filled) ready 0
-              0 refl refl refl
-              (tail_calls setting l procs casts m s write_at 0 n (n + 0) (Q write_at 0 0 n (n + 0) X refl filled) ready
+              (if_true setting way.P way.Q way.calm 0 0 refl refl refl
+              (tail_calls setting l procs casts m s write_at 0 n (n + 0) way.Q way.calm
               (w ∷ wu ∷ []) (set_proc own) refl there refl refl (
                 omega arith,
                 room_of setting l procs casts m s (writes_at w) refl (omega arith),

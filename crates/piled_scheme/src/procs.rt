@@ -1,42 +1,33 @@
 // The procedures of the scheme.
 
 ghost use Rattle.std.specs.Prelude.{◌≡◌, ◌<◌, ◌^◌, IfOk};
-ghost use Rattle.grift_base.specs.declared.verdicts.Trap.TheVariants.{Index};
-ghost use Rattle.low_ir.specs.Procedures.{Return, Store};
-ghost use Rattle.low_ir.specs.declared.code.LowSource.TheVariants.{Number as NumberCase};
-ghost use Rattle.low_ir.specs.Codes.{proc, trap_code};
+ghost use Rattle.machine_words.specs.declared.conditions.Cond.TheVariants.{Eq};
+ghost use Rattle.low_ir.specs.Procedures.{Load, Return, Store};
+ghost use Rattle.low_ir.specs.declared.code.LowSource.TheVariants.{Number as NumberCase, Word};
+ghost use Rattle.low_ir.specs.Codes.{either, proc};
 ghost use Rattle.low_ir.specs.Views.{code_of, proc_of, procs_of};
-ghost use Rattle.piled_scheme.specs.Codes.{blame_part, cast_proc, idle_proc, in_vector, look, piled_procs};
-ghost use Rattle.piled_scheme.specs.Codes.{read_proc, set_proc, unbox_proc, write_proc};
+ghost use Rattle.piled_scheme.specs.Codes.{blame_part, cast_proc, idle_proc, in_vector, piled_procs};
+ghost use Rattle.piled_scheme.specs.Codes.{look, read_proc, set_proc, unbox_proc, write_proc};
+ghost use Rattle.piled_scheme.specs.Piling.{wrapper_kind};
 
-use grift_base::environment::TRAP_CALL;
 use grift_base::lists::OutOfMemory;
+use grift_base::made::both;
 use grift_base::verdicts::Trap;
 use low_ir::code::LowSource::{Number, Word};
 use low_ir::code::{LowCode, LowSource, WordOp};
-use low_ir::codes::{blame, build, compute, either, load, set, tail_call};
+use low_ir::codes::{blame, build, compute, either, load, set, tail_call, trap};
 use low_ir::programs::{LowProc, LowProcs};
-use lower::copies::push_copies;
 use machine_words::conditions::Cond;
-use object_layout::words::{COUNT_SHIFT, COUNT_UNIT, KIND_MASK, WORD_SHIFT};
+use object_layout::words::{COUNT_SHIFT, COUNT_UNIT, WORD_SHIFT};
+use rt_cast::codes::{load_kind, unless_zero};
 use rt_refs::cells::{ASKS_BOX, ASKS_LENGTH};
+use rt_refs::codes::{proc, store, with_proc};
 use rt_refs::fills::{fill_loop, fill_proc};
-use rt_refs::procs::arithmetic_procs;
+use rt_refs::procs::with_arithmetic;
 use std::alloc::Global;
 
 // The kind of wrappers, which no other object has.
 const WRAPPER: u64 = 25;
-
-// A procedure of this code.
-fn proc(params: u32, words: u32, code: LowCode) -> LowProc
-    ensures { proc_of result ≡ proc params words (code_of code) }
-{
-    LowProc {
-        params,
-        words,
-        code,
-    }
-}
 
 // A word is stored at an offset of 8, and 0 is returned.
 fn store_and_return(
@@ -46,8 +37,7 @@ fn store_and_return(
 ) -> Result<LowCode, OutOfMemory>
     ensures { IfOk result (λ code. code_of code ≡ Store word address 8 (Return (NumberCase 0))) }
 {
-    let rest = Box::new(alloc, LowCode::Return(Number(0)))?;
-    Ok(LowCode::Store(word, address, 8, rest))
+    store(alloc, word, address, 8, LowCode::Return(Number(0)))
 }
 
 // Word 3 is one more than the label that is blamed.
@@ -58,24 +48,15 @@ fn blame_part(alloc: Global) -> Result<LowCode, OutOfMemory>
     compute(alloc, WordOp::Sub, 3, (Word(3), Number(1)), rest)
 }
 
-// Word 2 becomes the kind of the object in word 0.
-fn look(alloc: Global, rest: LowCode) -> Result<LowCode, OutOfMemory>
-    ensures { IfOk result (λ code. code_of code ≡ look (code_of rest)) }
-{
-    let rest = compute(alloc, WordOp::And, 2, (Word(2), Number(KIND_MASK)), rest)?;
-    load(alloc, 2, Word(0), 0, rest)
-}
-
 // A cast: the value is kept, blamed or wrapped.
 fn cast_proc(alloc: Global) -> Result<LowProc, OutOfMemory>
     ensures { IfOk result (λ proc. proc_of proc ≡ cast_proc) }
 {
-    let branches = (LowCode::Return(Word(0)), blame_part(alloc)?);
-    let rest = either(alloc, Cond::Eq, (Word(3), Number(0)), branches)?;
+    let rest = unless_zero(alloc, 3, Word(0), blame_part(alloc)?);
     let header = Number(WRAPPER + 2 * COUNT_UNIT);
     let made = LowCode::Return(Word(4));
-    let wrapped = build(alloc, 4, &[header, Word(0), Word(3)], made)?;
-    let rest = either(alloc, Cond::Eq, (Word(2), Number(1)), (wrapped, rest))?;
+    let branches = both(build(alloc, 4, &[header, Word(0), Word(3)], made), rest)?;
+    let rest = either(alloc, Cond::Eq, (Word(2), Number(1)), branches)?;
     let rest = compute(alloc, WordOp::Srl, 3, (Word(1), Number(1)), rest)?;
     let code = compute(alloc, WordOp::And, 2, (Word(1), Number(1)), rest)?;
     Ok(proc(2, 6, code))
@@ -88,43 +69,47 @@ fn idle_proc(params: u32) -> LowProc
     proc(params, 8, LowCode::Return(Number(0)))
 }
 
+// Where a wrapper stands at the address in word 0, it is passed, and what is done then goes by whether it does nothing;
+// else the bare box is there.
+fn by_wrapper(
+    alloc: Global,
+    ways: (LowCode, LowCode),
+    bare: LowCode,
+) -> Result<LowProc, OutOfMemory>
+    ensures { IfOk result (λ p. proc_of p ≡ proc 2 6 (look (either Eq (Word 2) (NumberCase wrapper_kind)
+        (Load 3 (Word 0) 16 (Load 0 (Word 0) 8 (either Eq (Word 3) (NumberCase 0) (code_of ways.0) (code_of ways.1))))
+        (code_of bare)))) }
+{
+    let rest = either(alloc, Cond::Eq, (Word(3), Number(0)), ways)?;
+    let rest = load(alloc, 0, Word(0), 8, rest)?;
+    let branches = (load(alloc, 3, Word(0), 16, rest)?, bare);
+    let rest = either(alloc, Cond::Eq, (Word(2), Number(WRAPPER)), branches)?;
+    Ok(proc(2, 6, load_kind(alloc, (2, 2), 0, rest)?))
+}
+
 // A box is read through its wrappers.
 fn unbox_proc(alloc: Global, own: u32) -> Result<LowProc, OutOfMemory>
     ensures { IfOk result (λ proc. proc_of proc ≡ unbox_proc own) }
 {
-    let found = load(alloc, 2, Word(0), 8, LowCode::Return(Word(2)))?;
-    let blamed = set(alloc, 3, Word(1), blame_part(alloc)?)?;
-    let bare = either(alloc, Cond::Eq, (Word(1), Number(0)), (found, blamed))?;
-    let kept = tail_call(alloc, own, &[Word(0), Word(1)])?;
-    let other = tail_call(alloc, own, &[Word(0), Word(3)])?;
-    let rest = either(alloc, Cond::Eq, (Word(3), Number(0)), (kept, other))?;
-    let rest = load(alloc, 0, Word(0), 8, rest)?;
-    let wrapped = load(alloc, 3, Word(0), 16, rest)?;
-    let rest = either(alloc, Cond::Eq, (Word(2), Number(WRAPPER)), (wrapped, bare))?;
-    Ok(proc(2, 6, look(alloc, rest)?))
+    let blamed = set(alloc, 3, Word(1), blame_part(alloc)?);
+    let found = load(alloc, 2, Word(0), 8, LowCode::Return(Word(2)));
+    let bare = either(alloc, Cond::Eq, (Word(1), Number(0)), both(found, blamed)?);
+    let kept = tail_call(alloc, own, &[Word(0), Word(1)]);
+    let ways = both(kept, tail_call(alloc, own, &[Word(0), Word(3)]));
+    let (ways, bare) = both(ways, bare)?;
+    by_wrapper(alloc, ways, bare)
 }
 
 // A box is written through its wrappers.
 fn set_proc(alloc: Global, own: u32) -> Result<LowProc, OutOfMemory>
     ensures { IfOk result (λ proc. proc_of proc ≡ set_proc own) }
 {
-    let bare = store_and_return(alloc, Word(1), Word(0))?;
-    let kept = tail_call(alloc, own, &[Word(0), Word(1)])?;
-    let branches = (kept, blame_part(alloc)?);
-    let rest = either(alloc, Cond::Eq, (Word(3), Number(0)), branches)?;
-    let rest = load(alloc, 0, Word(0), 8, rest)?;
-    let wrapped = load(alloc, 3, Word(0), 16, rest)?;
-    let rest = either(alloc, Cond::Eq, (Word(2), Number(WRAPPER)), (wrapped, bare))?;
-    Ok(proc(2, 6, look(alloc, rest)?))
-}
-
-// An index outside traps.
-fn trap_index(alloc: Global) -> Result<LowCode, OutOfMemory>
-    ensures { IfOk result (λ code. code_of code ≡ trap_code Index 4 5) }
-{
-    let kind = Number(u64::from(Trap::Index.number()));
-    let rest = Box::new(alloc, LowCode::Return(Number(0)))?;
-    Ok(LowCode::Environment(TRAP_CALL, kind, Number(0), 4, 5, rest))
+    let ways = both(
+        tail_call(alloc, own, &[Word(0), Word(1)]),
+        blame_part(alloc),
+    );
+    let (ways, bare) = both(ways, store_and_return(alloc, Word(1), Word(0)))?;
+    by_wrapper(alloc, ways, bare)
 }
 
 // An index of a vector is tested.
@@ -132,8 +117,8 @@ fn in_vector(alloc: Global, rest: LowCode) -> Result<LowCode, OutOfMemory>
     ensures { IfOk result (λ code. code_of code ≡ in_vector (code_of rest)) }
 {
     let rest = compute(alloc, WordOp::Add, 2, (Word(2), Word(1)), rest)?;
-    let inside = compute(alloc, WordOp::Sll, 2, (Word(2), Number(WORD_SHIFT)), rest)?;
-    let branches = (inside, trap_index(alloc)?);
+    let inside = compute(alloc, WordOp::Sll, 2, (Word(2), Number(WORD_SHIFT)), rest);
+    let branches = both(inside, trap(alloc, Trap::Index, 4, 5))?;
     let rest = either(alloc, Cond::Ltu, (Word(2), Word(4)), branches)?;
     let rest = compute(alloc, WordOp::Srl, 4, (Word(4), Number(COUNT_SHIFT)), rest)?;
     load(alloc, 4, Word(1), 0, rest)
@@ -143,24 +128,14 @@ fn in_vector(alloc: Global, rest: LowCode) -> Result<LowCode, OutOfMemory>
 fn read_proc(alloc: Global, unbox: u32) -> Result<LowProc, OutOfMemory>
     ensures { IfOk result (λ proc. proc_of proc ≡ read_proc unbox) }
 {
-    let element = load(alloc, 2, Word(2), 8, LowCode::Return(Word(2)))?;
-    let element = in_vector(alloc, element)?;
     let count = LowCode::Return(Word(4));
     let length = compute(alloc, WordOp::Srl, 4, (Word(4), Number(COUNT_SHIFT)), count)?;
-    let length = load(alloc, 4, Word(1), 0, length)?;
-    let vector = either(
-        alloc,
-        Cond::Eq,
-        (Word(0), Number(ASKS_LENGTH)),
-        (length, element),
-    )?;
-    let boxed = tail_call(alloc, unbox, &[Word(1), Number(0)])?;
-    let code = either(
-        alloc,
-        Cond::Eq,
-        (Word(0), Number(ASKS_BOX)),
-        (boxed, vector),
-    )?;
+    let length = load(alloc, 4, Word(1), 0, length);
+    let element = load(alloc, 2, Word(2), 8, LowCode::Return(Word(2)))?;
+    let branches = both(length, in_vector(alloc, element))?;
+    let vector = either(alloc, Cond::Eq, (Word(0), Number(ASKS_LENGTH)), branches);
+    let branches = both(tail_call(alloc, unbox, &[Word(1), Number(0)]), vector)?;
+    let code = either(alloc, Cond::Eq, (Word(0), Number(ASKS_BOX)), branches)?;
     Ok(proc(3, 6, code))
 }
 
@@ -168,15 +143,9 @@ fn read_proc(alloc: Global, unbox: u32) -> Result<LowProc, OutOfMemory>
 fn write_proc(alloc: Global, set: u32) -> Result<LowProc, OutOfMemory>
     ensures { IfOk result (λ proc. proc_of proc ≡ write_proc set) }
 {
-    let element = store_and_return(alloc, Word(3), Word(2))?;
-    let element = in_vector(alloc, element)?;
-    let boxed = tail_call(alloc, set, &[Word(1), Word(3)])?;
-    let code = either(
-        alloc,
-        Cond::Eq,
-        (Word(0), Number(ASKS_BOX)),
-        (boxed, element),
-    )?;
+    let element = in_vector(alloc, store_and_return(alloc, Word(3), Word(2))?);
+    let branches = both(tail_call(alloc, set, &[Word(1), Word(3)]), element)?;
+    let code = either(alloc, Cond::Eq, (Word(0), Number(ASKS_BOX)), branches)?;
     Ok(proc(4, 6, code))
 }
 
@@ -185,17 +154,14 @@ pub fn piled_procs(alloc: Global, first: u32) -> Result<LowProcs, OutOfMemory>
     requires { first < 2 ^ 31 }
     ensures { IfOk result (λ procs. procs_of procs ≡ piled_procs first) }
 {
-    let mut procs = LowProcs::new(alloc);
-    procs.push(cast_proc(alloc)?)?;
-    procs.push(idle_proc(4))?;
-    procs.push(idle_proc(8))?;
-    procs.push(read_proc(alloc, 7 + first)?)?;
-    procs.push(write_proc(alloc, 8 + first)?)?;
-    procs.push(fill_proc(alloc, 6 + first)?)?;
-    procs.push(fill_loop(alloc, 6 + first)?)?;
-    procs.push(unbox_proc(alloc, 7 + first)?)?;
-    procs.push(set_proc(alloc, 8 + first)?)?;
-    let others = arithmetic_procs(alloc, 9 + first)?;
-    push_copies(alloc, &mut procs, others.as_slice())?;
-    Ok(procs)
+    let procs = with_proc(Ok(LowProcs::new(alloc)), cast_proc(alloc));
+    let procs = with_proc(procs, Ok(idle_proc(4)));
+    let procs = with_proc(procs, Ok(idle_proc(8)));
+    let procs = with_proc(procs, read_proc(alloc, 7 + first));
+    let procs = with_proc(procs, write_proc(alloc, 8 + first));
+    let procs = with_proc(procs, fill_proc(alloc, 6 + first));
+    let procs = with_proc(procs, fill_loop(alloc, 6 + first));
+    let procs = with_proc(procs, unbox_proc(alloc, 7 + first));
+    let procs = with_proc(procs, set_proc(alloc, 8 + first));
+    with_arithmetic(alloc, procs, 9 + first)
 }

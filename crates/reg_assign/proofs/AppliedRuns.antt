@@ -22,13 +22,12 @@ use Rattle.rv_select.specs.Prices.{virtual_price}
 use Rattle.rv_select.proofs.Public.{unmetered}
 use Rattle.rv_select.specs.Stacks.{frame_size, stacked_machine}
 use Rattle.reg_assign.specs.Slotted.{Starts, setting_in, room_in, start_in, IsSeenAs, FollowsVirtual, EntersBeyond}
-use Rattle.reg_assign.specs.Slotted.{EndsToo, EndsAsVirtual, frames_of, last_frame}
-use Rattle.reg_assign.proofs.slotted.SlotRuns.{follows_in_stack, stops_as_virtual}
-use Rattle.reg_assign.proofs.slotted.InStack.{fitting_never_wrong, fitting_simulates}
+use Rattle.reg_assign.specs.Slotted.{DoesAsVirtual, EndsToo, EndsAsVirtual, frames_of, last_frame}
+use Rattle.reg_assign.proofs.slotted.SlotRuns.{follows_unbounded, follows_in_stack, stops_as_virtual}
+use Rattle.reg_assign.proofs.slotted.InStack.{fitting_never_wrong}
 use Rattle.reg_assign.specs.Rename.{Naming, densely, rename_all, renamed}
 use Rattle.reg_assign.specs.Sized.{stack_by, sized_machine, SameOrFewer}
-use Rattle.reg_assign.specs.Applied.{applied, slots_of, frames_by, last_frame_by, DoesInSlots, DoesAsVirtual}
-use Rattle.reg_assign.specs.Applied.{StopsInSlots}
+use Rattle.reg_assign.specs.Applied.{applied, slots_of, frames_by, last_frame_by, DoesInSlots, StopsInSlots}
 use Rattle.reg_assign.proofs.Renaming.{Pass, Related, IsFound}
 use Rattle.reg_assign.proofs.Dense.{dense_naming}
 use Rattle.reg_assign.proofs.Follows.{free_simulates, sized_simulates, related_start, comes_back, frames_same}
@@ -173,20 +172,8 @@ module _ {V : Type 0} (reading : Halt → Ending V) (items : List VirtualItem) (
 
     pub follows_virtual : reading (Lacks Stack) ≡ Exhausted → FollowsVirtual real price free work s
     follows_virtual out =
-        let lacking : reading (Lacks Stack) ≢ Wrong = (λ e. not_both (reading (Lacks Stack)) out e) in
-        let bytes = stack_by (slots_of place) in
-        let upper = follows_at_cost (fitting_simulates reading (setting_in items told s) bytes (room_in s) work out)
-        (start_in s) (start_in s) refl never in
-        let turns = follows_by_weaken (OfRest (IsSeenAs (s.regs 25))) (Spends 1)
-        (λ a b k. subst (λ x. IsSeenAs (s.regs 25) a.rest x) k.2 k.1) (λ a b k. spends_through 1 1 a b k)
-        (follows_by_trans (follows_in_slots lacking).turns upper) in
-        record {
-          follows = unmetered free real work price (unspent (start_in s)) s never turns;
-          turns = turns;
-        }
-      where
-        not_both : (o : Ending V) → o ≡ Exhausted → o ≡ Wrong → ⊥
-        not_both o e f = cc
+        follows_unbounded reading (setting_in items told s) (stack_by (slots_of place)) (room_in s) real price work s
+        never follows_in_slots out
 
     -- what the renamed code ends with
     ends_back : (verdict : V) (x : Moment State V) → EndsToo verdict free_others (start_in s) x

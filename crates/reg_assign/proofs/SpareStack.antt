@@ -1,6 +1,6 @@
 -- A run over words of procedures that make no environment call 6 never stops for want of stack.
 use Rattle.std.proofs.Common.{Bool, true, false, ◌&&◌, ℕ, zero, suc, ◌+◌, ◌*◌, ◌%◌, ◌^◌, ◌≡◌, ◌≢◌, ap, subst}
-use Rattle.std.proofs.Common.{List, [], ◌∷◌, Option, Some, None, length, refl, sym}
+use Rattle.std.proofs.Common.{List, [], ◌∷◌, Option, Some, length, sym}
 use Rattle.std.specs.Prelude.{pos, nat_lt, nat_le, ◌==◌, slice_get, if◌then◌else◌}
 use Rattle.std.proofs.lemmas.Bool.{or_parts}
 use Rattle.grift_base.specs.World.{WorldState}
@@ -8,7 +8,7 @@ use Rattle.grift_base.specs.EnvironmentCall.{environment_call}
 use Rattle.grift_base.specs.declared.verdicts.Verdict.{Verdict as Outcome}
 use Rattle.grift_base.specs.declared.verdicts.Verdict.TheVariants.{StackOut}
 use Rattle.run_laws.specs.Runs.{Ending, Verdict, Exhausted, Wrong}
-use Rattle.run_laws.specs.Machines.{Next, Go, Stop, Machine, and_then, steps, seen, run}
+use Rattle.run_laws.specs.Machines.{Next, Go, Stop, Machine, steps, seen, run}
 use Rattle.machine_words.specs.Memory.{Memory}
 use Rattle.machine_words.specs.Halts.{Lacks, Stack}
 use Rattle.machine_words.specs.Arithmetic.{plus}
@@ -22,7 +22,7 @@ use Rattle.low_ir.specs.declared.code.LowSource.{LowSource}
 use Rattle.low_ir.specs.Run.{Setting, Waiting, LowState, LowShown, proc_from, bind, word_of, words_of, with_local}
 use Rattle.low_ir.specs.Run.{goes_on, sets, enter_some, waits, answers, falls, call_environment, code_step}
 use Rattle.low_ir.specs.Run.{low_machine, low_start}
-use Rattle.low_ir.proofs.Public.{call_has_room}
+use Rattle.low_ir.proofs.Public.{call_has_room, LeadsTo, leads_along, leads_given, leads_if}
 use Rattle.reg_assign.proofs.Readings.{of_stack, stack_alone}
 
 -- ---- what holds of each procedure
@@ -70,9 +70,11 @@ module _ (setting : Setting) (calm : any_calls 6 setting.procs ≡ false) where
   abbrev Good : LowState → Type 0
   Good s = Left s.active.code s
 
+  abbrev Ends : Ending Outcome → LowState → Type 0
+  Ends e s = e ≢ Verdict StackOut
+
   abbrev Leads : Next LowState Outcome → Type 0
-  Leads (Go s) = Good s
-  Leads (Stop e s) = e ≢ Verdict StackOut
+  Leads x = LeadsTo Good Ends x
 
   wrong_is_none : Wrong ≢ (let e : Ending Outcome = Verdict StackOut in e)
   wrong_is_none e = cc
@@ -82,12 +84,10 @@ module _ (setting : Setting) (calm : any_calls 6 setting.procs ≡ false) where
 
   if_given : {A : Type 0} (s : LowState) (o : Option A) (go : A → Next LowState Outcome)
       → ((x : A) → o ≡ Some x → Leads (go x)) → Leads (given s o go)
-  if_given s None go h = wrong_is_none
-  if_given s (Some x) go h = h x refl
+  if_given s o go h = leads_given Leads s wrong_is_none o go h
 
   if_test : (s : LowState) (b : Bool) (go : Next LowState Outcome) → Leads go → Leads (only_if s b go)
-  if_test s true go h = h
-  if_test s false go h = wrong_is_none
+  if_test s b go h = leads_if Leads s wrong_is_none b go (λ e. h)
 
   by_test : (b : Bool) (x y : Next LowState Outcome) → Leads x → Leads y → Leads (if b then x else y)
   by_test true x y h k = h
@@ -194,15 +194,8 @@ module _ (setting : Setting) (calm : any_calls 6 setting.procs ≡ false) where
 
   -- ---- runs
 
-  goes_on_from : (x : Next LowState Outcome) (go : LowState → Next LowState Outcome) → Leads x
-      → ((s : LowState) → Good s → Leads (go s)) → Leads (and_then x go)
-  goes_on_from (Go s) go l h = h s l
-  goes_on_from (Stop e s) go l h = l
-
   along : (n : ℕ) (s : LowState) → Good s → Leads (steps M s n)
-  along zero s g = g
-  along (suc n) s g =
-      goes_on_from (M.step s) (λ s1. steps M s1 n) (step s.active.code s g) (λ s1 g1. along n s1 g1)
+  along n s g = leads_along M Good Ends (λ s1 g1. step s1.active.code s1 g1) n s g
 
   some_is : (a b : Ending Outcome) → Some a ≡ Some b → a ≡ b
   some_is a b h = cc

@@ -1,12 +1,11 @@
 -- The real code of a virtual one whose registers have places, and what it is to the virtual code.
 use Rattle.std.specs.Prelude.{ℕ, ◌≤◌, ◌≡◌, true, List, All}
 use Rattle.grift_base.specs.declared.verdicts.Verdict.{Verdict}
-use Rattle.run_laws.specs.Runs.{Ending, Exhausted, NeverWrong}
+use Rattle.run_laws.specs.Runs.{Ending, NeverWrong}
 use Rattle.run_laws.specs.Machines.{run}
 use Rattle.rv_machine.specs.declared.real.RealItem.{RealItem}
 use Rattle.rv_machine.specs.State.{State}
-use Rattle.machine_words.specs.Halts.{Halt, Lacks, Stack}
-use Rattle.machine_words.specs.Halts.{IsReading}
+use Rattle.machine_words.specs.Halts.{Halt, IsReading}
 use Rattle.rv_machine.specs.Real.{Setting as RealSetting, real_machine}
 use Rattle.assembler.specs.Conditions.{CanBeAssembled}
 use Rattle.assembler.specs.Prices.{state_price}
@@ -20,7 +19,7 @@ use Rattle.rv_select.specs.Marks.{marks, Distinct}
 use Rattle.rv_select.specs.WellFormed.{IsWellFormed}
 use Rattle.reg_assign.specs.Slots.{slots_items, slot_offset}
 use Rattle.reg_assign.specs.Slotted.{free_mark, Starts, setting_in, room_in, start_in, FollowsVirtual}
-use Rattle.reg_assign.specs.Slotted.{EndsAsVirtual, SparesLast, ProceduresBegin}
+use Rattle.reg_assign.specs.Slotted.{DoesAsVirtual, EndsAsVirtual, SparesLast, ProceduresBegin}
 use Rattle.reg_assign.specs.Rename.{renamed, densely}
 use Rattle.reg_assign.specs.Sized.{stack_by, sized_machine}
 
@@ -42,15 +41,6 @@ DoesInSlots reading place items code =
     → FollowsVirtual (real_machine reading code setting) (state_price code setting)
     (sized_machine reading (setting_in items told s) (slots_of place) (room_in s))
     (virtual_price (setting_in items told s)) s
-
--- where want of stack is read as exhausted, the machine follows the virtual run that has no bound on its stack
-abbrev pub DoesAsVirtual : {V : Type 0} → (Halt → Ending V) → List VirtualItem → List RealItem → Type 0
-DoesAsVirtual reading items code =
-    reading (Lacks Stack) ≡ Exhausted → (setting : RealSetting) (told : ℕ → ℕ) (s : State)
-    → Starts items code setting told s
-    → NeverWrong (run (virtual_machine reading (setting_in items told s)) (start_in s))
-    → FollowsVirtual (real_machine reading code setting) (state_price code setting)
-    (virtual_machine reading (setting_in items told s)) (virtual_price (setting_in items told s)) s
 
 -- the bytes of all frames of a state, and those of the last, where a frame has the link and the slots that are left
 abbrev pub frames_by : (ℕ → Place) → VirtualState → ℕ

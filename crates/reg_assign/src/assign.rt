@@ -103,7 +103,8 @@ fn bits_at(busy: &[u32], place: usize) -> u32
 
 // The real registers in use behind the items at some places.
 fn in_use(busy: &[u32], at: &[usize]) -> u32
-    ensures { Tells (λ r. (j : ℕ) → j < length at.now → bit_at (slice_index busy.now (slice_index at.now j)) r ≡ 0) result }
+    ensures { Tells (λ r. (j : ℕ) → j < length at.now
+        → bit_at (slice_index busy.now (slice_index at.now j)) r ≡ 0) result }
 {
     let mut taken = 0;
     for place in at {

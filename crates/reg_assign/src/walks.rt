@@ -8,7 +8,7 @@ ghost use Rattle.rv_select.specs.declared.code.VirtualItem.{VirtualItem};
 ghost use Rattle.reg_assign.specs.Check.{Needed};
 ghost use Rattle.reg_assign.specs.Numbers.{register_at};
 ghost use Rattle.reg_assign.specs.Flow.{IsListed, IsRead, IsTarget, under};
-ghost use Rattle.reg_assign.specs.Walks.{IsIdle, IsWalk, Grows, Reaches, HasRoots, IsClosed, Leads, Steps};
+ghost use Rattle.reg_assign.specs.Walks.{IsIdle, IsWalk, Grows, Reaches, IsClosed, Leads, Steps};
 
 use crate::flow::Flow;
 use crate::named::{has_next, is_written, mark_of};
@@ -149,7 +149,7 @@ pub(crate) fn begin(
     ensures number { OnOk result (walk.new.number ≡ number) }
     ensures none { OnOk result (walk.new.done ≡ 0) }
     ensures walk { OnOk result (IsWalk items.now walk.new) }
-    ensures roots { OnOk result (HasRoots items.now walk.new) }
+    ensures closed { OnOk result (IsClosed items.now walk.new) }
 {
     if number >= usize::MAX - 1 {
         return Err(OutOfMemory);

@@ -810,18 +810,20 @@ cast_price_some : (w n : ℕ) → 620 ≤ cast_price w n
 cast_price_some w zero = omega arith
 cast_price_some w (suc m) = omega arith
 
+light_or : (b : Bool) (light heavy : ℕ) → light ≤ heavy → (if b then light else heavy) ≤ heavy
+light_or true light heavy le = le
+light_or false light heavy le = omega arith
+
 pub words_within : {A : Type 0} (l : Layout) (c : Coercion) (u : Merged A)
     → cast_words_of l c u ≤ cast_words l.width l.tallest
-words_within l c u = by (is_light (rows_in l) c u)
-  where
-    by : (b : Bool) → (if b then light_words c else cast_words l.width l.tallest) ≤ cast_words l.width l.tallest
-    by true = let a = (light_low c).0 in let b = cast_words_some l.width l.tallest in omega (arith, a, b)
-    by false = omega arith
+words_within l c u =
+    let a = (light_low c).0 in
+    let b = cast_words_some l.width l.tallest in
+    light_or (is_light (rows_in l) c u) (light_words c) (cast_words l.width l.tallest) (omega (arith, a, b))
 
 pub price_within : {A : Type 0} (l : Layout) (c : Coercion) (u : Merged A)
     → cast_price_of l c u ≤ cast_price l.width l.tallest
-price_within l c u = by (is_light (rows_in l) c u)
-  where
-    by : (b : Bool) → (if b then light_price c else cast_price l.width l.tallest) ≤ cast_price l.width l.tallest
-    by true = let a = (light_low c).1 in let b = cast_price_some l.width l.tallest in omega (arith, a, b)
-    by false = omega arith
+price_within l c u =
+    let a = (light_low c).1 in
+    let b = cast_price_some l.width l.tallest in
+    light_or (is_light (rows_in l) c u) (light_price c) (cast_price l.width l.tallest) (omega (arith, a, b))

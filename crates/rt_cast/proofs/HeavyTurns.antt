@@ -9,7 +9,7 @@ use Rattle.coercion_norm.specs.declared.middles.MiddleKind.{MiddleKind as Kind}
 use Rattle.coercion_norm.specs.Coercions.{Coercion, Coercions, Id, Fail, Middle, Inject, Project, kind_of, rows_of}
 use Rattle.coercion_norm.specs.CoercionTables.{cast_of, composition_of}
 use Rattle.coercion_norm.specs.Composition.{coerce_below, coerce_by, coerce_middle}
-use Rattle.cast_modes.specs.Modes.{Bare, Wrapped, Injected, Decision, NoCast}
+use Rattle.cast_modes.specs.Modes.{Shape, Bare, Wrapped, Injected, Decision, NoCast}
 use Rattle.coercion_norm.specs.MergedMode.{applied, middle_head, proxied, rewrapped, shape_has_head, width}
 use Rattle.coercion_norm.specs.Normal.{IsNormal, is_project}
 use Rattle.rt_cast.specs.HeavyTurns.{has_heavy_turn, is_heavy, opens_parts, turns_heavily}
@@ -55,50 +55,38 @@ module _ {A : Type 0} (head : A → TypeHead) (types : TypeRows) where
   rewraps (Inject g kept) d u = refl
   rewraps (Project wanted label i) d u = refl
 
+  -- what a middle does with a value of a shape that has its head
+  abbrev goes : Kind → Coercions → Shape Coercion → Decision Coercion
+  goes kind cs shape = proxied (cast_of types) (composition_of types) types (Middle kind cs) shape
+
   -- a middle wraps, wraps anew or unwraps
   middle_is_heavy : (go : Coercion → Merged A → Outcome A) (kind : Kind) (cs : Coercions) (u : Merged A)
       → (decided go (decision (Middle kind cs) u) u ≡ Stuck → ⊥)
       → is_heavy {A = A} R (Middle kind cs) u (decision (Middle kind cs) u) ≡ true
   middle_is_heavy go kind cs u some = by_value u some
     where
+      heavy_if : (d : Decision Coercion) (v : Merged A)
+          → ((decided go d v ≡ Stuck → ⊥) → is_heavy {A = A} R (Middle kind cs) v d ≡ true) → (b : Bool)
+          → (decided go (if b then d else NoCast) v ≡ Stuck → ⊥)
+          → is_heavy {A = A} R (Middle kind cs) v (if b then d else NoCast) ≡ true
+      heavy_if d v so true some = so some
+      heavy_if d v so false some = absurd (some refl)
+
       by_value : (v : Merged A) → (decided go (decision (Middle kind cs) v) v ≡ Stuck → ⊥)
           → is_heavy {A = A} R (Middle kind cs) v (decision (Middle kind cs) v) ≡ true
-      by_value (Base h w) some = by (shape_has_head (Bare h) (middle_head kind (width cs))) some
-        where
-          by : (b : Bool) → (decided go (if b then proxied (cast_of types) (composition_of types) types
-              (Middle kind cs) (Bare h) else NoCast) (Base h w) ≡ Stuck → ⊥)
-              → is_heavy {A = A} R (Middle kind cs) (Base h w) (if b then proxied (cast_of types) (composition_of
-              types) types
-              (Middle kind cs) (Bare h) else NoCast) ≡ true
-          by true some = refl
-          by false some = absurd (some refl)
-      by_value (Solid a) some = by (shape_has_head (Bare (head a)) (middle_head kind (width cs))) some
-        where
-          by : (b : Bool) → (decided go (if b then proxied (cast_of types) (composition_of types) types
-              (Middle kind cs) (Bare (head a)) else NoCast) (Solid a) ≡ Stuck → ⊥)
-              → is_heavy {A = A} R (Middle kind cs) (Solid a) (if b then proxied (cast_of types) (composition_of
-              types) types
-              (Middle kind cs) (Bare (head a)) else NoCast) ≡ true
-          by true some = refl
-          by false some = absurd (some refl)
-      by_value (Proxied a old) some = by (shape_has_head (Wrapped old) (middle_head kind (width cs))) some
-        where
-          by : (b : Bool) → (decided go (if b then proxied (cast_of types) (composition_of types) types
-              (Middle kind cs) (Wrapped old) else NoCast) (Proxied a old) ≡ Stuck → ⊥)
-              → is_heavy {A = A} R (Middle kind cs) (Proxied a old) (if b then proxied (cast_of types) (composition_of
-              types)
-              types (Middle kind cs) (Wrapped old) else NoCast) ≡ true
-          by true some = rewraps (composition_of types old (Middle kind cs)) (Middle kind cs) (Proxied a old)
-          by false some = absurd (some refl)
-      by_value (InDyn kept x) some = by (shape_has_head (Injected kept) (middle_head kind (width cs))) some
-        where
-          by : (b : Bool) → (decided go (if b then proxied (cast_of types) (composition_of types) types
-              (Middle kind cs) (Injected kept) else NoCast) (InDyn kept x) ≡ Stuck → ⊥)
-              → is_heavy {A = A} R (Middle kind cs) (InDyn kept x) (if b then proxied (cast_of types) (composition_of
-              types)
-              types (Middle kind cs) (Injected kept) else NoCast) ≡ true
-          by true some = absurd (some refl)
-          by false some = absurd (some refl)
+      by_value (Base h w) some =
+          heavy_if (goes kind cs (Bare h)) (Base h w) (λ x. refl)
+          (shape_has_head (Bare h) (middle_head kind (width cs))) some
+      by_value (Solid a) some =
+          heavy_if (goes kind cs (Bare (head a))) (Solid a) (λ x. refl)
+          (shape_has_head (Bare (head a)) (middle_head kind (width cs))) some
+      by_value (Proxied a old) some =
+          heavy_if (goes kind cs (Wrapped old)) (Proxied a old)
+          (λ x. rewraps (composition_of types old (Middle kind cs)) (Middle kind cs) (Proxied a old))
+          (shape_has_head (Wrapped old) (middle_head kind (width cs))) some
+      by_value (InDyn kept x) some =
+          heavy_if (goes kind cs (Injected kept)) (InDyn kept x) (λ y. absurd (y refl))
+          (shape_has_head (Injected kept) (middle_head kind (width cs))) some
 
   middle_turns : (depth : ℕ) (kind : Kind) (cs : Coercions) (u : Merged A)
       → (cast_to head types (suc depth) (Middle kind cs) u ≡ Stuck → ⊥)

@@ -1,28 +1,8 @@
 -- Codes of parts as loops make them.
-use Rattle.std.proofs.Common.{
-  ◌≡◌,
-  ℕ,
-  zero,
-  suc,
-  ◌+◌,
-  ◌-◌,
-  ◌<◌,
-  List,
-  [],
-  ◌∷◌,
-  ◌++◌,
-  append_assoc,
-  refl,
-  ap,
-  ap₂,
-  ◌∙◌,
-  subst,
-  arith,
-}
+use Rattle.std.proofs.Common.{◌≡◌, ℕ, zero, suc, ◌+◌, ◌-◌, ◌<◌, List, [], ◌∷◌, ◌++◌, append_assoc, ap, ap₂, ◌∙◌}
+use Rattle.std.proofs.Common.{subst, arith}
 use Rattle.low_ir.specs.declared.code.LowSource.TheVariants.{Word}
-use Rattle.low_ir.specs.Procedures.{Code}
-use Rattle.low_ir.specs.declared.programs.LowProc.{LowProc}
-use Rattle.low_ir.specs.Views.{proc_of, procs_of}
+use Rattle.low_ir.specs.Procedures.{Code, Proc}
 use Rattle.rt_cast.specs.PartCodes.{results, part_step, parts_code}
 use Rattle.rt_cast.specs.Procs.{middle_by, middles_from}
 
@@ -65,19 +45,13 @@ middles_end higher each (suc n) r =
     (subst (λ i. middles_from higher each n (suc r) ++ middle_by higher each i ∷ []
     ≡ middles_from higher each (suc n) (suc r)) e (middles_end higher each n (suc r)))
 
-procs_join : (xs ys : List LowProc) → procs_of (xs ++ ys) ≡ procs_of xs ++ procs_of ys
-procs_join [] ys = refl
-procs_join (x ∷ xs) ys = ap (λ ps. proc_of x ∷ ps) (procs_join xs ys)
-
-pub middles_more : (higher each r : ℕ) (start old new : List LowProc) (p : LowProc)
-    → procs_of old ≡ procs_of start ++ middles_from higher each r 0 → proc_of p ≡ middle_by higher each r
-    → new ≡ old ++ p ∷ [] → procs_of new ≡ procs_of start ++ middles_from higher each (r + 1) 0
-middles_more higher each r start old new p o m n =
+pub middles_more : (higher each r : ℕ) (before : List Proc)
+    → before ++ middles_from higher each r 0 ++ middle_by higher each r ∷ []
+    ≡ before ++ middles_from higher each (r + 1) 0
+middles_more higher each r before =
     let e : 0 + r ≡ r = omega arith in
     let f : suc r ≡ r + 1 = omega arith in
-    let last : middles_from higher each r 0 ++ middle_by higher each r ∷ [] ≡ middles_from higher each (suc r) 0 =
-    subst (λ i. middles_from higher each r 0 ++ middle_by higher each i ∷ [] ≡ middles_from higher each (suc r) 0) e
-    (middles_end higher each r 0) in
-    ap procs_of n ∙ (procs_join old (p ∷ []) ∙ (ap₂ (λ xs q. xs ++ q ∷ []) o m
-    ∙ (append_assoc (procs_of start) (middles_from higher each r 0) (middle_by higher each r ∷ [])
-    ∙ (ap (λ xs. procs_of start ++ xs) last ∙ ap (λ i. procs_of start ++ middles_from higher each i 0) f))))
+    append_assoc before (middles_from higher each r 0) (middle_by higher each r ∷ [])
+    ∙ ap (λ xs. before ++ xs)
+    (subst (λ i. middles_from higher each r 0 ++ middle_by higher each i ∷ [] ≡ middles_from higher each (suc r) 0) e
+    (middles_end higher each r 0) ∙ ap (λ i. middles_from higher each i 0) f)

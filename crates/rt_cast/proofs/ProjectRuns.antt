@@ -6,6 +6,7 @@ use Rattle.std.specs.Prelude.{◌==◌, nat_lt, slice_get, max, All, pos, ℤ}
 use Rattle.std.proofs.lemmas.List.Elements.{All-head, All-tail}
 use Rattle.grift_base.specs.Types.{TypeHead, TypeRow, TypeRows, IntRow, BoolRow, UnitRow, DynRow, FunRow, TupleRow}
 use Rattle.grift_base.specs.Types.{RefRow, VectRow, is_dyn, parts_of, row_at, tuple_part, dyn_from, dyn_place}
+use Rattle.grift_base.proofs.Public.{each_row}
 use Rattle.low_ir.specs.declared.code.LowSource.TheVariants.{Word, Number}
 use Rattle.low_ir.specs.declared.code.WordOp.TheVariants.{And}
 use Rattle.machine_words.specs.declared.conditions.Cond.TheVariants.{Eq, Ltu}
@@ -113,14 +114,8 @@ dyn_there types dyn e =
     subst (λ k. is_dyn (rows_of types k) ≡ true) s z.2
 
 kind_of_dyn : (row : TypeRow) → (type_kind row == 19) ≡ is_dyn row
-kind_of_dyn IntRow = refl
-kind_of_dyn BoolRow = refl
-kind_of_dyn UnitRow = refl
-kind_of_dyn DynRow = refl
-kind_of_dyn (FunRow ps a) = refl
-kind_of_dyn (TupleRow ps) = refl
-kind_of_dyn (RefRow c) = refl
-kind_of_dyn (VectRow c) = refl
+kind_of_dyn = each_row (λ row. (type_kind row == 19) ≡ is_dyn row)
+    refl refl refl refl (λ _ _. refl) (λ _. refl) (λ _. refl) (λ _. refl)
 
 -- what is done with a part of what is in Dyn
 abbrev unless_dyn : Code

@@ -2,24 +2,24 @@
 
 ghost use Rattle.std.specs.Prelude.{◌≡◌, ◌+◌, ◌≤◌, ◌^◌, IfOk};
 ghost use Rattle.low_ir.specs.Views.{code_of, proc_of};
-ghost use Rattle.rt_cast.specs.CastCodes.{dyn_object, dyn_base, into_dyn, read_kind, cast_inject};
+ghost use Rattle.rt_cast.specs.CastCodes.{dyn_object, dyn_base, into_dyn, cast_inject};
 ghost use Rattle.rt_cast.specs.CastCodes.{project_small, project_object, cast_project, cast_proxy, cast_middle};
 ghost use Rattle.rt_cast.specs.CastCodes.{cast_kinds, project_dyn_part, project_dyn_object, project_dyn, project_proxy};
 ghost use Rattle.rt_cast.specs.CastCodes.{project_tuple};
 ghost use Rattle.rt_cast.specs.Procs.{cast_proc, project_proc};
 
+use crate::codes::{by_kind, load_kind, proc, unless_zero};
 use crate::numbers::CastProc;
 use crate::words::{header, kind};
 use grift_base::lists::OutOfMemory;
+use grift_base::made::both;
 use low_ir::code::LowSource::{Number, Word};
 use low_ir::code::{LowCode, WordOp};
 use low_ir::codes::{blame, build, call, compute, either, load, tail_call};
 use low_ir::programs::LowProc;
 use machine_words::conditions::Cond;
 use object_layout::kinds::Kind;
-use object_layout::words::{
-    COUNT_SHIFT, KIND_MASK, TAG_MASK, TAG_SHIFT, TYPE_OVER_TAG, WORD_SHIFT,
-};
+use object_layout::words::{COUNT_SHIFT, TAG_MASK, TAG_SHIFT, TYPE_OVER_TAG, WORD_SHIFT};
 use std::alloc::Global;
 
 // A value in Dyn as an object: word 8 is the type that it keeps, word 9 the value.
@@ -53,16 +53,8 @@ fn dyn_base(alloc: Global) -> Result<LowCode, OutOfMemory>
 fn into_dyn(alloc: Global) -> Result<LowCode, OutOfMemory>
     ensures { IfOk result (λ code. code_of code ≡ into_dyn) }
 {
-    let branches = (dyn_base(alloc)?, dyn_object(alloc)?);
+    let branches = both(dyn_base(alloc), dyn_object(alloc))?;
     either(alloc, Cond::Ltu, (Word(6), kind(Kind::DynType)), branches)
-}
-
-// The kind of the type in word 8 is read first.
-fn read_kind(alloc: Global, rest: LowCode) -> Result<LowCode, OutOfMemory>
-    ensures { IfOk result (λ code. code_of code ≡ read_kind (code_of rest)) }
-{
-    let rest = compute(alloc, WordOp::And, 6, (Word(6), Number(KIND_MASK)), rest)?;
-    load(alloc, 6, Word(8), 0, rest)
 }
 
 // An injection: what stands before it, and then a Dyn.
@@ -71,7 +63,7 @@ fn cast_inject(alloc: Global, first: u32) -> Result<LowCode, OutOfMemory>
     ensures { IfOk result (λ code. code_of code ≡ cast_inject first) }
 {
     let cast = CastProc::Cast.number(first);
-    let rest = read_kind(alloc, into_dyn(alloc)?)?;
+    let rest = load_kind(alloc, (6, 6), 8, into_dyn(alloc)?)?;
     let rest = load(alloc, 8, Word(1), 16, rest)?;
     let rest = call(alloc, 9, cast, &[Word(0), Word(4)], rest)?;
     load(alloc, 4, Word(1), 8, rest)
@@ -95,8 +87,7 @@ fn project_small(alloc: Global, first: u32) -> Result<LowCode, OutOfMemory>
         (Word(4), Number(TYPE_OVER_TAG)),
         rest,
     )?;
-    let rest = compute(alloc, WordOp::And, 5, (Word(5), Number(KIND_MASK)), rest)?;
-    let rest = load(alloc, 5, Word(5), 0, rest)?;
+    let rest = load_kind(alloc, (5, 5), 5, rest)?;
     load(alloc, 5, Word(1), 8, rest)
 }
 
@@ -123,7 +114,7 @@ fn cast_project(alloc: Global, first: u32) -> Result<LowCode, OutOfMemory>
     requires room { first + 27 ≤ 2 ^ 32 }
     ensures { IfOk result (λ code. code_of code ≡ cast_project first) }
 {
-    let branches = (project_object(alloc, first)?, project_small(alloc, first)?);
+    let branches = both(project_object(alloc, first), project_small(alloc, first))?;
     let rest = either(alloc, Cond::Eq, (Word(4), Number(0)), branches)?;
     compute(alloc, WordOp::And, 4, (Word(0), Number(TAG_MASK)), rest)
 }
@@ -136,8 +127,7 @@ fn cast_proxy(alloc: Global, first: u32) -> Result<LowCode, OutOfMemory>
     let compose = CastProc::Compose.number(first);
     let words = [Number(header(Kind::Proxy, 2)), Word(7), Word(6)];
     let rest = build(alloc, 8, &words, LowCode::Return(Word(8)))?;
-    let branches = (LowCode::Return(Word(7)), rest);
-    let rest = either(alloc, Cond::Eq, (Word(6), Number(0)), branches)?;
+    let rest = unless_zero(alloc, 6, Word(7), rest)?;
     let rest = load(alloc, 7, Word(0), 8, rest)?;
     let rest = call(alloc, 6, compose, &[Word(6), Word(1)], rest)?;
     load(alloc, 6, Word(0), 16, rest)
@@ -149,11 +139,10 @@ fn cast_middle(alloc: Global, first: u32) -> Result<LowCode, OutOfMemory>
     ensures { IfOk result (λ code. code_of code ≡ cast_middle first) }
 {
     let words = [Number(header(Kind::Proxy, 2)), Word(0), Word(1)];
-    let bare = build(alloc, 8, &words, LowCode::Return(Word(8)))?;
-    let branches = (cast_proxy(alloc, first)?, bare);
-    let rest = either(alloc, Cond::Eq, (Word(5), kind(Kind::Proxy)), branches)?;
-    let rest = compute(alloc, WordOp::And, 5, (Word(4), Number(KIND_MASK)), rest)?;
-    load(alloc, 4, Word(0), 0, rest)
+    let bare = build(alloc, 8, &words, LowCode::Return(Word(8)));
+    let branches = both(cast_proxy(alloc, first), bare)?;
+    let rest = by_kind(alloc, 5, Kind::Proxy, branches)?;
+    load_kind(alloc, (4, 5), 0, rest)
 }
 
 // With the kind of the coercion.
@@ -161,17 +150,13 @@ fn cast_kinds(alloc: Global, first: u32) -> Result<LowCode, OutOfMemory>
     requires room { first + 27 ≤ 2 ^ 32 }
     ensures { IfOk result (λ code. code_of code ≡ cast_kinds first) }
 {
-    let branches = (cast_project(alloc, first)?, cast_middle(alloc, first)?);
-    let rest = either(alloc, Cond::Eq, (Word(3), kind(Kind::Project)), branches)?;
-    let branches = (cast_inject(alloc, first)?, rest);
-    let rest = either(alloc, Cond::Eq, (Word(3), kind(Kind::Inject)), branches)?;
-    let failure = load(alloc, 4, Word(1), 8, blame(alloc, Word(4))?)?;
-    either(
-        alloc,
-        Cond::Eq,
-        (Word(3), kind(Kind::Fail)),
-        (failure, rest),
-    )
+    let branches = both(cast_project(alloc, first), cast_middle(alloc, first))?;
+    let rest = by_kind(alloc, 3, Kind::Project, branches);
+    let branches = both(cast_inject(alloc, first), rest)?;
+    let rest = by_kind(alloc, 3, Kind::Inject, branches);
+    let failure = load(alloc, 4, Word(1), 8, blame(alloc, Word(4))?);
+    let branches = both(failure, rest)?;
+    by_kind(alloc, 3, Kind::Fail, branches)
 }
 
 /// A cast of the value in word 0 by the coercion in word 1.
@@ -179,16 +164,8 @@ pub fn cast_proc(alloc: Global, first: u32) -> Result<LowProc, OutOfMemory>
     requires room { first + 27 ≤ 2 ^ 32 }
     ensures { IfOk result (λ proc. proc_of proc ≡ cast_proc first) }
 {
-    let rest = cast_kinds(alloc, first)?;
-    let rest = compute(alloc, WordOp::And, 3, (Word(2), Number(KIND_MASK)), rest)?;
-    let rest = load(alloc, 2, Word(1), 0, rest)?;
-    let branches = (LowCode::Return(Word(0)), rest);
-    let code = either(alloc, Cond::Eq, (Word(1), Number(0)), branches)?;
-    Ok(LowProc {
-        params: 2,
-        words: 10,
-        code,
-    })
+    let rest = load_kind(alloc, (2, 3), 1, cast_kinds(alloc, first)?)?;
+    Ok(proc(2, 10, unless_zero(alloc, 1, Word(0), rest)?))
 }
 
 // The part of what is in the Dyn, in a Dyn that keeps the part's type, unless that is Dyn.
@@ -198,8 +175,8 @@ fn project_dyn_part(alloc: Global, first: u32) -> Result<LowCode, OutOfMemory>
 {
     let project = CastProc::Project.number(first);
     let branches = (LowCode::Return(Word(9)), into_dyn(alloc)?);
-    let rest = either(alloc, Cond::Eq, (Word(6), kind(Kind::DynType)), branches)?;
-    let rest = read_kind(alloc, rest)?;
+    let rest = by_kind(alloc, 6, Kind::DynType, branches)?;
+    let rest = load_kind(alloc, (6, 6), 8, rest)?;
     let words = [Word(5), Word(1), Number(1), Word(3)];
     let rest = call(alloc, 9, project, &words, rest)?;
     let rest = load(alloc, 8, Word(8), 8, rest)?;
@@ -212,13 +189,12 @@ fn project_dyn_object(alloc: Global, first: u32) -> Result<LowCode, OutOfMemory>
     requires room { first + 27 ≤ 2 ^ 32 }
     ensures { IfOk result (λ code. code_of code ≡ project_dyn_object first) }
 {
-    let branches = (project_dyn_part(alloc, first)?, blame(alloc, Word(3))?);
-    let rest = either(alloc, Cond::Ltu, (Word(1), Word(6)), branches)?;
-    let branches = (rest, blame(alloc, Word(3))?);
-    let rest = either(alloc, Cond::Eq, (Word(7), kind(Kind::TupleType)), branches)?;
+    let branches = both(project_dyn_part(alloc, first), blame(alloc, Word(3)))?;
+    let rest = either(alloc, Cond::Ltu, (Word(1), Word(6)), branches);
+    let branches = both(rest, blame(alloc, Word(3)))?;
+    let rest = by_kind(alloc, 7, Kind::TupleType, branches)?;
     let rest = compute(alloc, WordOp::Srl, 6, (Word(6), Number(COUNT_SHIFT)), rest)?;
-    let rest = compute(alloc, WordOp::And, 7, (Word(6), Number(KIND_MASK)), rest)?;
-    let rest = load(alloc, 6, Word(4), 0, rest)?;
+    let rest = load_kind(alloc, (6, 7), 4, rest)?;
     let rest = load(alloc, 5, Word(0), 16, rest)?;
     load(alloc, 4, Word(0), 8, rest)
 }
@@ -228,7 +204,7 @@ fn project_dyn(alloc: Global, first: u32) -> Result<LowCode, OutOfMemory>
     requires room { first + 27 ≤ 2 ^ 32 }
     ensures { IfOk result (λ code. code_of code ≡ project_dyn first) }
 {
-    let branches = (project_dyn_object(alloc, first)?, blame(alloc, Word(3))?);
+    let branches = both(project_dyn_object(alloc, first), blame(alloc, Word(3)))?;
     let rest = either(alloc, Cond::Eq, (Word(4), Number(0)), branches)?;
     compute(alloc, WordOp::And, 4, (Word(0), Number(TAG_MASK)), rest)
 }
@@ -254,11 +230,10 @@ fn project_tuple(alloc: Global, first: u32) -> Result<LowCode, OutOfMemory>
     ensures { IfOk result (λ code. code_of code ≡ project_tuple first) }
 {
     let rest = load(alloc, 8, Word(8), 8, LowCode::Return(Word(8)))?;
-    let bare = compute(alloc, WordOp::Add, 8, (Word(0), Word(6)), rest)?;
-    let branches = (project_proxy(alloc, first)?, bare);
-    let rest = either(alloc, Cond::Eq, (Word(7), kind(Kind::Proxy)), branches)?;
-    let rest = compute(alloc, WordOp::And, 7, (Word(7), Number(KIND_MASK)), rest)?;
-    let rest = load(alloc, 7, Word(0), 0, rest)?;
+    let bare = compute(alloc, WordOp::Add, 8, (Word(0), Word(6)), rest);
+    let branches = both(project_proxy(alloc, first), bare)?;
+    let rest = by_kind(alloc, 7, Kind::Proxy, branches)?;
+    let rest = load_kind(alloc, (7, 7), 0, rest)?;
     compute(alloc, WordOp::Sll, 6, (Word(1), Number(WORD_SHIFT)), rest)
 }
 
@@ -268,11 +243,7 @@ pub fn project_proc(alloc: Global, first: u32) -> Result<LowProc, OutOfMemory>
     requires room { first + 27 ≤ 2 ^ 32 }
     ensures { IfOk result (λ proc. proc_of proc ≡ project_proc first) }
 {
-    let branches = (project_dyn(alloc, first)?, project_tuple(alloc, first)?);
+    let branches = both(project_dyn(alloc, first), project_tuple(alloc, first))?;
     let code = either(alloc, Cond::Eq, (Word(2), Number(0)), branches)?;
-    Ok(LowProc {
-        params: 4,
-        words: 12,
-        code,
-    })
+    Ok(proc(4, 12, code))
 }

@@ -1,14 +1,25 @@
-// The header of an object that is made, in front of other code; the other steps are those of `low_ir::codes`.
+// Pieces that procedures are made of, in front of other code; the other steps are those of `low_ir::codes`.
 
 ghost use Rattle.std.specs.Prelude.{◌≡◌, IfOk};
-ghost use Rattle.low_ir.specs.Views.{code_of};
+ghost use Rattle.machine_words.specs.declared.conditions.Cond.TheVariants.{Eq};
+ghost use Rattle.object_layout.specs.Kinds.{kind_number};
+ghost use Rattle.object_layout.specs.Words.{kind_mask};
+ghost use Rattle.low_ir.specs.Codes.{either, proc};
+ghost use Rattle.low_ir.specs.declared.code.LowSource.TheVariants.{Number, Word};
+ghost use Rattle.low_ir.specs.declared.code.WordOp.TheVariants.{And};
+ghost use Rattle.low_ir.specs.Procedures.{Compute, Load, Return};
+ghost use Rattle.low_ir.specs.Views.{code_of, proc_of};
 ghost use Rattle.rt_cast.specs.PartCodes.{put_header};
 
+use crate::words::kind;
 use grift_base::lists::OutOfMemory;
 use low_ir::code::LowSource::{Number, Word};
-use low_ir::code::{LowCode, WordOp};
-use low_ir::codes::compute;
-use object_layout::words::HEIGHT_SHIFT;
+use low_ir::code::{LowCode, LowSource, WordOp};
+use low_ir::codes::{compute, either, load};
+use low_ir::programs::LowProc;
+use machine_words::conditions::Cond;
+use object_layout::kinds::Kind;
+use object_layout::words::{HEIGHT_SHIFT, KIND_MASK};
 use std::alloc::Global;
 
 /// A word becomes the header of an object, whose height it was; the header is told without its height.
@@ -28,4 +39,62 @@ pub fn put_header(
         (Word(word), Number(HEIGHT_SHIFT)),
         rest,
     )
+}
+
+/// The header of the object whose address is in a word goes into the first of two words, and its kind into the second.
+pub fn load_kind(
+    alloc: Global,
+    words: (u32, u32),
+    object: u32,
+    rest: LowCode,
+) -> Result<LowCode, OutOfMemory>
+    ensures { IfOk result (λ code. code_of code ≡ Load words.0 (Word object) 0
+        (Compute And words.1 (Word words.0) (Number kind_mask) (code_of rest))) }
+{
+    let (header, kind) = words;
+    let rest = compute(
+        alloc,
+        WordOp::And,
+        kind,
+        (Word(header), Number(KIND_MASK)),
+        rest,
+    )?;
+    load(alloc, header, Word(object), 0, rest)
+}
+
+/// One of two codes is done, by whether a word is the number of a kind.
+pub fn by_kind(
+    alloc: Global,
+    word: u32,
+    wanted: Kind,
+    branches: (LowCode, LowCode),
+) -> Result<LowCode, OutOfMemory>
+    ensures { IfOk result (λ code. code_of code ≡ either Eq (Word word) (Number (kind_number wanted))
+        (code_of branches.0) (code_of branches.1)) }
+{
+    either(alloc, Cond::Eq, (Word(word), kind(wanted)), branches)
+}
+
+/// A source is returned where a word is 0, and else the rest is done.
+pub fn unless_zero(
+    alloc: Global,
+    word: u32,
+    answer: LowSource,
+    rest: LowCode,
+) -> Result<LowCode, OutOfMemory>
+    ensures { IfOk result (λ code. code_of code ≡ either Eq (Word word) (Number 0) (Return answer) (code_of rest)) }
+{
+    let branches = (LowCode::Return(answer), rest);
+    either(alloc, Cond::Eq, (Word(word), Number(0)), branches)
+}
+
+/// A procedure that takes so many words, and has so many.
+pub fn proc(params: u32, words: u32, code: LowCode) -> LowProc
+    ensures { proc_of result ≡ proc params words (code_of code) }
+{
+    LowProc {
+        params,
+        words,
+        code,
+    }
 }

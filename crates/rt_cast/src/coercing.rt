@@ -6,18 +6,19 @@ ghost use Rattle.rt_cast.specs.CoerceCodes.{coerce_fail, coerce_alike, coerce_he
 ghost use Rattle.rt_cast.specs.CoerceCodes.{coerce_from_dyn, coerce_to_dyn};
 ghost use Rattle.rt_cast.specs.Procs.{coerce_proc};
 
-use crate::codes::put_header;
+use crate::codes::{by_kind, load_kind, proc, put_header};
 use crate::numbers::{COERCE_MIDDLES, CastProc};
 use crate::parts::pick;
 use crate::words::{header, kind};
 use grift_base::lists::OutOfMemory;
+use grift_base::made::both;
 use low_ir::code::LowSource::{Number, Word};
 use low_ir::code::{LowCode, WordOp};
-use low_ir::codes::{build, call, compute, either, load, tail_call};
+use low_ir::codes::{build, call, compute, either, tail_call};
 use low_ir::programs::LowProc;
 use machine_words::conditions::Cond;
 use object_layout::kinds::Kind;
-use object_layout::words::{COUNT_SHIFT, KIND_MASK, TYPE_OVER_MIDDLE};
+use object_layout::words::{COUNT_SHIFT, TYPE_OVER_MIDDLE};
 use std::alloc::Global;
 
 // A failure with the label.
@@ -36,10 +37,10 @@ fn coerce_alike(alloc: Global, first: u32) -> Result<LowCode, OutOfMemory>
     let pair = CastProc::Pair.number(first);
     let wide = [Word(0), Word(1), Word(9), Word(7), Word(2)];
     let twice = [Word(0), Word(1), Word(9), Number(2), Word(2)];
-    let branches = (
-        pick(alloc, 7, COERCE_MIDDLES, first, &wide)?,
-        tail_call(alloc, pair, &twice)?,
-    );
+    let branches = both(
+        pick(alloc, 7, COERCE_MIDDLES, first, &wide),
+        tail_call(alloc, pair, &twice),
+    )?;
     let rest = either(alloc, Cond::Ltu, (Word(9), kind(Kind::Ref)), branches)?;
     let rest = compute(
         alloc,
@@ -57,9 +58,9 @@ fn coerce_heads(alloc: Global, first: u32) -> Result<LowCode, OutOfMemory>
     requires room { first + 27 ≤ 2 ^ 32 }
     ensures { IfOk result (λ code. code_of code ≡ coerce_heads first) }
 {
-    let branches = (coerce_alike(alloc, first)?, coerce_fail(alloc)?);
-    let rest = either(alloc, Cond::Eq, (Word(7), Word(8)), branches)?;
-    let branches = (rest, coerce_fail(alloc)?);
+    let branches = both(coerce_alike(alloc, first), coerce_fail(alloc))?;
+    let rest = either(alloc, Cond::Eq, (Word(7), Word(8)), branches);
+    let branches = both(rest, coerce_fail(alloc))?;
     let rest = either(alloc, Cond::Eq, (Word(4), Word(6)), branches)?;
     let rest = compute(alloc, WordOp::Srl, 8, (Word(5), Number(COUNT_SHIFT)), rest)?;
     compute(alloc, WordOp::Srl, 7, (Word(3), Number(COUNT_SHIFT)), rest)
@@ -94,10 +95,10 @@ fn coerce_kinds(alloc: Global, first: u32) -> Result<LowCode, OutOfMemory>
     requires room { first + 27 ≤ 2 ^ 32 }
     ensures { IfOk result (λ code. code_of code ≡ coerce_kinds first) }
 {
-    let branches = (coerce_to_dyn(alloc, first)?, coerce_heads(alloc, first)?);
-    let rest = either(alloc, Cond::Eq, (Word(6), kind(Kind::DynType)), branches)?;
-    let branches = (coerce_from_dyn(alloc, first)?, rest);
-    either(alloc, Cond::Eq, (Word(4), kind(Kind::DynType)), branches)
+    let branches = both(coerce_to_dyn(alloc, first), coerce_heads(alloc, first))?;
+    let rest = by_kind(alloc, 6, Kind::DynType, branches);
+    let branches = both(coerce_from_dyn(alloc, first), rest)?;
+    by_kind(alloc, 4, Kind::DynType, branches)
 }
 
 /// The coercion of a cast between the two types in words 0 and 1, with the label in word 2.
@@ -105,16 +106,12 @@ pub fn coerce_proc(alloc: Global, first: u32) -> Result<LowProc, OutOfMemory>
     requires room { first + 27 ≤ 2 ^ 32 }
     ensures { IfOk result (λ proc. proc_of proc ≡ coerce_proc first) }
 {
-    let rest = coerce_kinds(alloc, first)?;
-    let rest = compute(alloc, WordOp::And, 6, (Word(5), Number(KIND_MASK)), rest)?;
-    let rest = load(alloc, 5, Word(1), 0, rest)?;
-    let rest = compute(alloc, WordOp::And, 4, (Word(3), Number(KIND_MASK)), rest)?;
-    let rest = load(alloc, 3, Word(0), 0, rest)?;
+    let rest = load_kind(alloc, (5, 6), 1, coerce_kinds(alloc, first)?)?;
+    let rest = load_kind(alloc, (3, 4), 0, rest)?;
     let branches = (LowCode::Return(Number(0)), rest);
-    let code = either(alloc, Cond::Eq, (Word(0), Word(1)), branches)?;
-    Ok(LowProc {
-        params: 3,
-        words: 11,
-        code,
-    })
+    Ok(proc(
+        3,
+        11,
+        either(alloc, Cond::Eq, (Word(0), Word(1)), branches)?,
+    ))
 }

@@ -6,18 +6,19 @@ ghost use Rattle.rt_cast.specs.ComposeCodes.{compose_project, compose_inject, co
 ghost use Rattle.rt_cast.specs.ComposeCodes.{compose_middle, compose_third, compose_second, compose_first};
 ghost use Rattle.rt_cast.specs.Procs.{compose_proc};
 
-use crate::codes::put_header;
+use crate::codes::{by_kind, load_kind, proc, put_header, unless_zero};
 use crate::numbers::{CastProc, MIDDLES};
 use crate::parts::pick;
-use crate::words::{header, kind};
+use crate::words::header;
 use grift_base::lists::OutOfMemory;
+use grift_base::made::both;
 use low_ir::code::LowSource::{Number, Word};
 use low_ir::code::{LowCode, WordOp};
 use low_ir::codes::{build, call, compute, either, load, tail_call};
 use low_ir::programs::LowProc;
 use machine_words::conditions::Cond;
 use object_layout::kinds::Kind;
-use object_layout::words::{COUNT_SHIFT, KIND_MASK};
+use object_layout::words::COUNT_SHIFT;
 use std::alloc::Global;
 
 // A projection first.
@@ -56,7 +57,7 @@ fn compose_inject(alloc: Global, first: u32) -> Result<LowCode, OutOfMemory>
     let rest = load(alloc, 7, Word(1), 8, rest)?;
     let rest = load(alloc, 6, Word(0), 16, rest)?;
     let branches = (rest, LowCode::Return(Number(0)));
-    either(alloc, Cond::Eq, (Word(5), kind(Kind::Project)), branches)
+    by_kind(alloc, 5, Kind::Project, branches)
 }
 
 // A middle before an injection.
@@ -82,10 +83,10 @@ fn compose_both(alloc: Global, first: u32) -> Result<LowCode, OutOfMemory>
     ensures { IfOk result (λ code. code_of code ≡ compose_both first) }
 {
     let words = [Word(0), Word(1), Word(3), Word(6), Number(0)];
-    let branches = (
-        pick(alloc, 6, MIDDLES, first, &words)?,
-        pick(alloc, 7, MIDDLES, first, &words)?,
-    );
+    let branches = both(
+        pick(alloc, 6, MIDDLES, first, &words),
+        pick(alloc, 7, MIDDLES, first, &words),
+    )?;
     let rest = either(alloc, Cond::Ltu, (Word(6), Word(7)), branches)?;
     let rest = compute(alloc, WordOp::Srl, 7, (Word(4), Number(COUNT_SHIFT)), rest)?;
     compute(alloc, WordOp::Srl, 6, (Word(2), Number(COUNT_SHIFT)), rest)
@@ -97,9 +98,9 @@ fn compose_middle(alloc: Global, first: u32) -> Result<LowCode, OutOfMemory>
     ensures { IfOk result (λ code. code_of code ≡ compose_middle first) }
 {
     let branches = (compose_both(alloc, first)?, LowCode::Return(Number(0)));
-    let rest = either(alloc, Cond::Eq, (Word(3), Word(5)), branches)?;
-    let onto = compose_onto(alloc, first)?;
-    either(alloc, Cond::Eq, (Word(5), kind(Kind::Inject)), (onto, rest))
+    let rest = either(alloc, Cond::Eq, (Word(3), Word(5)), branches);
+    let branches = both(compose_onto(alloc, first), rest)?;
+    by_kind(alloc, 5, Kind::Inject, branches)
 }
 
 // With the kinds of both.
@@ -107,10 +108,9 @@ fn compose_third(alloc: Global, first: u32) -> Result<LowCode, OutOfMemory>
     requires room { first + 27 ≤ 2 ^ 32 }
     ensures { IfOk result (λ code. code_of code ≡ compose_third first) }
 {
-    let branches = (compose_inject(alloc, first)?, compose_middle(alloc, first)?);
-    let rest = either(alloc, Cond::Eq, (Word(3), kind(Kind::Inject)), branches)?;
-    let branches = (LowCode::Return(Word(1)), rest);
-    either(alloc, Cond::Eq, (Word(5), kind(Kind::Fail)), branches)
+    let branches = both(compose_inject(alloc, first), compose_middle(alloc, first))?;
+    let rest = by_kind(alloc, 3, Kind::Inject, branches)?;
+    by_kind(alloc, 5, Kind::Fail, (LowCode::Return(Word(1)), rest))
 }
 
 // With the kind of the first.
@@ -118,20 +118,12 @@ fn compose_first(alloc: Global, first: u32) -> Result<LowCode, OutOfMemory>
     requires room { first + 27 ≤ 2 ^ 32 }
     ensures { IfOk result (λ code. code_of code ≡ compose_first first) }
 {
-    let rest = compose_third(alloc, first)?;
-    let rest = compute(alloc, WordOp::And, 5, (Word(4), Number(KIND_MASK)), rest)?;
-    let rest = load(alloc, 4, Word(1), 0, rest)?;
-    let branches = (LowCode::Return(Word(0)), rest);
-    let second = either(alloc, Cond::Eq, (Word(1), Number(0)), branches)?;
+    let rest = load_kind(alloc, (4, 5), 1, compose_third(alloc, first)?)?;
+    let second = unless_zero(alloc, 1, Word(0), rest)?;
     let branches = (LowCode::Return(Word(0)), second);
-    let rest = either(alloc, Cond::Eq, (Word(3), kind(Kind::Fail)), branches)?;
-    let projects = compose_project(alloc, first)?;
-    either(
-        alloc,
-        Cond::Eq,
-        (Word(3), kind(Kind::Project)),
-        (projects, rest),
-    )
+    let rest = by_kind(alloc, 3, Kind::Fail, branches);
+    let branches = both(compose_project(alloc, first), rest)?;
+    by_kind(alloc, 3, Kind::Project, branches)
 }
 
 /// The composition of the two coercions in words 0 and 1.
@@ -139,14 +131,6 @@ pub fn compose_proc(alloc: Global, first: u32) -> Result<LowProc, OutOfMemory>
     requires room { first + 27 ≤ 2 ^ 32 }
     ensures { IfOk result (λ proc. proc_of proc ≡ compose_proc first) }
 {
-    let rest = compose_first(alloc, first)?;
-    let rest = compute(alloc, WordOp::And, 3, (Word(2), Number(KIND_MASK)), rest)?;
-    let rest = load(alloc, 2, Word(0), 0, rest)?;
-    let branches = (LowCode::Return(Word(1)), rest);
-    let code = either(alloc, Cond::Eq, (Word(0), Number(0)), branches)?;
-    Ok(LowProc {
-        params: 2,
-        words: 12,
-        code,
-    })
+    let rest = load_kind(alloc, (2, 3), 0, compose_first(alloc, first)?)?;
+    Ok(proc(2, 12, unless_zero(alloc, 0, Word(1), rest)?))
 }

@@ -45,16 +45,6 @@ impl CastProc {
         requires room { first + 27 ≤ 2 ^ 32 }
         ensures { result ≡ cast_proc_number self first }
     {
-        match self {
-            CastProc::Coerce => first,
-            CastProc::Compose => 1 + first,
-            CastProc::Cast => 2 + first,
-            CastProc::Project => 3 + first,
-            CastProc::Part => 4 + first,
-            CastProc::Raise => 5 + first,
-            CastProc::Final => 6 + first,
-            CastProc::CoercePart => 7 + first,
-            CastProc::Pair => 8 + first,
-        }
+        self as u32 + first
     }
 }

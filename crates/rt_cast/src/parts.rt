@@ -10,16 +10,17 @@ ghost use Rattle.low_ir.specs.Codes.{proc, either};
 ghost use Rattle.rt_cast.specs.PartCodes.{middle_code, apart, part_turns, pick};
 ghost use Rattle.rt_cast.specs.Procs.{raise_proc, final_proc};
 
+use crate::codes::{by_kind, load_kind, proc, unless_zero};
 use crate::numbers::MOST_PARTS;
-use crate::words::kind;
 use grift_base::lists::OutOfMemory;
+use grift_base::made::both;
 use low_ir::code::LowSource::{Number, Word};
 use low_ir::code::{LowCode, LowSource, WordOp};
 use low_ir::codes::{build, call, compute, either, load, set, tail_call};
 use low_ir::programs::LowProc;
 use machine_words::conditions::Cond;
 use object_layout::kinds::Kind;
-use object_layout::words::{COUNT_UNIT, HEIGHT_MASK, HEIGHT_SHIFT, KIND_MASK};
+use object_layout::words::{COUNT_UNIT, HEIGHT_MASK, HEIGHT_SHIFT};
 use std::alloc::Global;
 
 /// The greater of a height and an object's, which stand in words 0 and 1.
@@ -31,13 +32,7 @@ pub fn raise_proc(alloc: Global) -> Result<LowProc, OutOfMemory>
     let rest = compute(alloc, WordOp::And, 2, (Word(2), Number(HEIGHT_MASK)), rest)?;
     let rest = compute(alloc, WordOp::Srl, 2, (Word(2), Number(HEIGHT_SHIFT)), rest)?;
     let rest = load(alloc, 2, Word(1), 0, rest)?;
-    let branches = (LowCode::Return(Word(0)), rest);
-    let code = either(alloc, Cond::Eq, (Word(1), Number(0)), branches)?;
-    Ok(LowProc {
-        params: 2,
-        words: 3,
-        code,
-    })
+    Ok(proc(2, 3, unless_zero(alloc, 1, Word(0), rest)?))
 }
 
 /// What may stand behind a projection.
@@ -45,16 +40,8 @@ pub fn final_proc(alloc: Global) -> Result<LowProc, OutOfMemory>
     ensures { IfOk result (λ proc. proc_of proc ≡ final_proc) }
 {
     let ends = (LowCode::Return(Number(0)), LowCode::Return(Word(0)));
-    let rest = either(alloc, Cond::Eq, (Word(1), kind(Kind::Project)), ends)?;
-    let rest = compute(alloc, WordOp::And, 1, (Word(1), Number(KIND_MASK)), rest)?;
-    let rest = load(alloc, 1, Word(0), 0, rest)?;
-    let branches = (LowCode::Return(Word(0)), rest);
-    let code = either(alloc, Cond::Eq, (Word(0), Number(0)), branches)?;
-    Ok(LowProc {
-        params: 1,
-        words: 2,
-        code,
-    })
+    let rest = load_kind(alloc, (1, 1), 0, by_kind(alloc, 1, Kind::Project, ends)?)?;
+    Ok(proc(1, 2, unless_zero(alloc, 0, Word(0), rest)?))
 }
 
 // The header and the words of the parts, in the order in which they stand in the object.
@@ -82,8 +69,7 @@ fn finish_code(alloc: Global, total: u32) -> Result<LowCode, OutOfMemory>
     let rest = compute(alloc, WordOp::Add, 5, (Word(5), Word(2)), rest)?;
     let rest = compute(alloc, WordOp::Sll, 5, (Word(5), Number(HEIGHT_SHIFT)), rest)?;
     let rest = compute(alloc, WordOp::Add, 5, (Word(5), Number(1)), rest)?;
-    let branches = (LowCode::Return(Number(0)), rest);
-    either(alloc, Cond::Eq, (Word(6), Number(0)), branches)
+    unless_zero(alloc, 6, Number(0), rest)
 }
 
 /// How a middle is made: by which procedures of a height and of a part, and how many bytes the parts lie apart in the
@@ -137,19 +123,21 @@ pub fn middle_proc(alloc: Global, making: Making, total: u32) -> Result<LowProc,
 {
     let rest = parts_code(alloc, making, total)?;
     let rest = set(alloc, 6, Number(0), rest)?;
-    let code = set(alloc, 5, Number(0), rest)?;
-    Ok(LowProc {
-        params: 5,
-        words: 24,
-        code,
-    })
+    Ok(proc(5, 24, set(alloc, 5, Number(0), rest)?))
 }
 
-// One of two codes is done, by whether the part is the last one.
-fn by_last(alloc: Global, branches: (LowCode, LowCode)) -> Result<LowCode, OutOfMemory>
+// A procedure goes on with the words in one list where the part is the last one, and else with those in another.
+fn by_last(
+    alloc: Global,
+    procedure: u32,
+    last: &[LowSource],
+    others: &[LowSource],
+) -> Result<LowCode, OutOfMemory>
     ensures { IfOk result (λ code. code_of code
-        ≡ either Eq (Word 1) (Word 2) (code_of branches.0) (code_of branches.1)) }
+        ≡ either Eq (Word 1) (Word 2) (TailCall procedure last.now) (TailCall procedure others.now)) }
 {
+    let last = tail_call(alloc, procedure, last);
+    let branches = both(last, tail_call(alloc, procedure, others))?;
     either(alloc, Cond::Eq, (Word(1), Word(2)), branches)
 }
 
@@ -163,34 +151,11 @@ pub fn part_proc(
     ensures { IfOk result (λ p. proc_of p
         ≡ proc 6 6 (part_turns (TailCall procedure on.now) (TailCall procedure back.now))) }
 {
-    let branches = (
-        tail_call(alloc, procedure, on)?,
-        tail_call(alloc, procedure, back)?,
-    );
-    let functions = by_last(alloc, branches)?;
-    let branches = (
-        tail_call(alloc, procedure, back)?,
-        tail_call(alloc, procedure, on)?,
-    );
-    let cells = by_last(alloc, branches)?;
-    let others = either(
-        alloc,
-        Cond::Eq,
-        (Word(0), kind(Kind::Fun)),
-        (functions, cells),
-    )?;
-    let tuples = tail_call(alloc, procedure, on)?;
-    let code = either(
-        alloc,
-        Cond::Eq,
-        (Word(0), kind(Kind::Tup)),
-        (tuples, others),
-    )?;
-    Ok(LowProc {
-        params: 6,
-        words: 6,
-        code,
-    })
+    let functions = by_last(alloc, procedure, on, back);
+    let branches = both(functions, by_last(alloc, procedure, back, on))?;
+    let others = by_kind(alloc, 0, Kind::Fun, branches);
+    let branches = both(tail_call(alloc, procedure, on), others)?;
+    Ok(proc(6, 6, by_kind(alloc, 0, Kind::Tup, branches)?))
 }
 
 /// The procedure for so many parts as a word says goes on with these words; those for no parts to eight parts are

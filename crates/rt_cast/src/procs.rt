@@ -1,7 +1,8 @@
 // All procedures.
 
-ghost use Rattle.std.specs.Prelude.{◌≡◌, ◌+◌, ◌≤◌, ◌^◌, ◌++◌, OnOk, IfOk};
-ghost use Rattle.low_ir.specs.Views.{procs_of};
+ghost use Rattle.std.specs.Prelude.{◌≡◌, ◌+◌, ◌≤◌, ◌^◌, ◌++◌, ◌∷◌, [], List, IfOk};
+ghost use Rattle.low_ir.specs.Procedures.{Proc};
+ghost use Rattle.low_ir.specs.Views.{proc_of, procs_of};
 ghost use Rattle.rt_cast.specs.Procs.{middles_from, cast_procs};
 
 use crate::casting::{cast_proc, project_proc};
@@ -10,20 +11,39 @@ use crate::composing::compose_proc;
 use crate::numbers::{CastProc, MOST_PARTS};
 use crate::parts::{Making, final_proc, middle_proc, part_proc, raise_proc};
 use grift_base::lists::OutOfMemory;
+use grift_base::made::both;
 use low_ir::code::LowSource::Word;
-use low_ir::programs::LowProcs;
+use low_ir::programs::{LowProc, LowProcs};
 use std::alloc::Global;
 
-// The procedures for no parts to eight parts go last.
-fn push_middles(alloc: Global, procs: &mut LowProcs, making: Making) -> Result<(), OutOfMemory>
-    requires apart { making.step ≡ 8 }
-    ensures { OnOk result (procs_of procs.new
-        ≡ procs_of procs.old ++ middles_from making.raise making.part 9 0) }
+// A procedure goes last, where it and those before it were made. So its caller holds no value at an exit.
+fn with_proc(
+    procs: Result<LowProcs, OutOfMemory>,
+    made: Result<LowProc, OutOfMemory>,
+) -> Result<LowProcs, OutOfMemory>
+    ensures { (before : List Proc) (last : Proc) → IfOk procs (λ all. procs_of all ≡ before)
+        → IfOk made (λ p. proc_of p ≡ last) → IfOk result (λ all. procs_of all ≡ before ++ last ∷ []) }
 {
+    let (mut procs, made) = both(procs, made)?;
+    procs.push(made)?;
+    Ok(procs)
+}
+
+// The procedures for no parts to eight parts go last.
+fn with_middles(
+    alloc: Global,
+    procs: Result<LowProcs, OutOfMemory>,
+    making: Making,
+) -> Result<LowProcs, OutOfMemory>
+    requires apart { making.step ≡ 8 }
+    ensures { (before : List Proc) → IfOk procs (λ all. procs_of all ≡ before)
+        → IfOk result (λ all. procs_of all ≡ before ++ middles_from making.raise making.part 9 0) }
+{
+    let mut made = procs;
     for r in 0..MOST_PARTS + 1 {
-        procs.push(middle_proc(alloc, making, r)?)?;
+        made = with_proc(made, middle_proc(alloc, making, r));
     }
-    Ok(())
+    made
 }
 
 /// The procedures coerce, compose, cast and project, numbered from `first` on, and behind them those that they call.
@@ -36,36 +56,38 @@ pub fn cast_procs(alloc: Global, first: u32) -> Result<LowProcs, OutOfMemory>
     requires room { first + 27 ≤ 2 ^ 32 }
     ensures { IfOk result (λ procs. procs_of procs ≡ cast_procs first) }
 {
-    let mut procs = LowProcs::new(alloc);
-    procs.push(coerce_proc(alloc, first)?)?;
-    procs.push(compose_proc(alloc, first)?)?;
-    procs.push(cast_proc(alloc, first)?)?;
-    procs.push(project_proc(alloc, first)?)?;
+    let procs = with_proc(Ok(LowProcs::new(alloc)), coerce_proc(alloc, first));
+    let procs = with_proc(procs, compose_proc(alloc, first));
+    let procs = with_proc(procs, cast_proc(alloc, first));
+    let procs = with_proc(procs, project_proc(alloc, first));
     let on = [Word(3), Word(4)];
     let back = [Word(4), Word(3)];
-    procs.push(part_proc(alloc, CastProc::Compose.number(first), &on, &back)?)?;
-    procs.push(raise_proc(alloc)?)?;
-    procs.push(final_proc(alloc)?)?;
+    let composed = part_proc(alloc, CastProc::Compose.number(first), &on, &back);
+    let procs = with_proc(procs, composed);
+    let procs = with_proc(procs, raise_proc(alloc));
+    let procs = with_proc(procs, final_proc(alloc));
     let on = [Word(3), Word(4), Word(5)];
     let back = [Word(4), Word(3), Word(5)];
-    procs.push(part_proc(alloc, CastProc::Coerce.number(first), &on, &back)?)?;
-    let pairs = Making {
-        raise: CastProc::Raise.number(first),
-        part: CastProc::CoercePart.number(first),
-        step: 0,
-    };
-    procs.push(middle_proc(alloc, pairs, 2)?)?;
-    let compositions = Making {
-        raise: CastProc::Raise.number(first),
-        part: CastProc::Part.number(first),
-        step: 8,
-    };
-    push_middles(alloc, &mut procs, compositions)?;
+    let coerced = part_proc(alloc, CastProc::Coerce.number(first), &on, &back);
+    let procs = with_proc(procs, coerced);
     let coercions = Making {
         raise: CastProc::Raise.number(first),
         part: CastProc::CoercePart.number(first),
         step: 8,
     };
-    push_middles(alloc, &mut procs, coercions)?;
-    Ok(procs)
+    let pair = middle_proc(
+        alloc,
+        Making {
+            step: 0,
+            ..coercions
+        },
+        2,
+    );
+    let procs = with_proc(procs, pair);
+    let compositions = Making {
+        part: CastProc::Part.number(first),
+        ..coercions
+    };
+    let procs = with_middles(alloc, procs, compositions);
+    with_middles(alloc, procs, coercions)
 }

@@ -4,6 +4,7 @@
 
 pub mod calls;
 pub mod cells;
+pub mod codes;
 pub mod fills;
 pub mod laws;
 pub mod numbers;

@@ -32,16 +32,6 @@ impl RefProc {
         requires room { first + 9 ≤ 2 ^ 32 }
         ensures { result ≡ ref_proc_number self first }
     {
-        match self {
-            RefProc::Apply => first,
-            RefProc::Read => 1 + first,
-            RefProc::Write => 2 + first,
-            RefProc::Fill => 3 + first,
-            RefProc::FillLoop => 4 + first,
-            RefProc::ProductLoop => 5 + first,
-            RefProc::QuotientLoop => 6 + first,
-            RefProc::Multiply => 7 + first,
-            RefProc::Divide => 8 + first,
-        }
+        self as u32 + first
     }
 }

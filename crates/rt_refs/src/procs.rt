@@ -1,6 +1,7 @@
 // The procedures of product, quotient and remainder, and all procedures of this crate in order.
 
-ghost use Rattle.std.specs.Prelude.{◌≡◌, ◌+◌, ◌≤◌, ◌^◌, IfOk};
+ghost use Rattle.std.specs.Prelude.{◌≡◌, ◌+◌, ◌≤◌, ◌^◌, ◌++◌, List, IfOk};
+ghost use Rattle.low_ir.specs.Procedures.{Proc};
 ghost use Rattle.low_ir.specs.Views.{code_of, proc_of, procs_of};
 ghost use Rattle.rt_refs.specs.Products.{sum_code, product_loop, multiply};
 ghost use Rattle.rt_refs.specs.Quotients.{signed_answer, subtract_code, next_bit, quotient_loop, magnitude_code};
@@ -10,12 +11,14 @@ ghost use Rattle.rt_refs.specs.RefProcs.{ref_procs};
 
 use crate::calls::apply_proc;
 use crate::cells::{read_proc, write_proc};
+use crate::codes::{proc, with_proc};
 use crate::fills::{fill_loop, fill_proc};
 use crate::numbers::RefProc;
 use grift_base::lists::OutOfMemory;
+use grift_base::made::both;
 use grift_base::verdicts::Trap;
 use low_ir::code::LowSource::{Number, Word};
-use low_ir::code::{LowCode, WordOp};
+use low_ir::code::{LowCode, LowSource, WordOp};
 use low_ir::codes::{choose, compute, set, tail_call, trap};
 use low_ir::programs::{LowProc, LowProcs};
 use machine_words::conditions::Cond;
@@ -30,18 +33,36 @@ pub const ASKS_QUOTIENT: u64 = 0;
 /// The remainder is.
 pub const ASKS_REMAINDER: u64 = 1;
 
+// What the loop of quotient and remainder goes on with: its own words.
+const LOOP_WORDS: [LowSource; 7] = [
+    Word(0),
+    Word(1),
+    Word(2),
+    Word(3),
+    Word(4),
+    Word(5),
+    Word(6),
+];
+
+// What it begins with: dividend and divisor without signs, remainder and quotient, how many bits are left, the sign of
+// the answer, and what is asked for.
+const FIRST_WORDS: [LowSource; 7] = [
+    Word(3),
+    Word(4),
+    Number(0),
+    Number(0),
+    Number(64),
+    Word(5),
+    Word(2),
+];
+
 // Where the lowest bit of word 1 is set, word 2 gains word 0.
 fn sum_code(alloc: Global, rest: LowCode) -> Result<LowCode, OutOfMemory>
     ensures { IfOk result (λ code. code_of code ≡ sum_code (code_of rest)) }
 {
     let gain = compute(alloc, WordOp::Add, 2, (Word(2), Word(0)), LowCode::Done)?;
-    let rest = choose(
-        alloc,
-        Cond::Eq,
-        (Word(3), Number(0)),
-        (LowCode::Done, gain),
-        rest,
-    )?;
+    let ways = (LowCode::Done, gain);
+    let rest = choose(alloc, Cond::Eq, (Word(3), Number(0)), ways, rest)?;
     compute(alloc, WordOp::And, 3, (Word(1), Number(1)), rest)
 }
 
@@ -55,11 +76,7 @@ fn product_loop(alloc: Global, own: u32) -> Result<LowProc, OutOfMemory>
     let rest = sum_code(alloc, rest)?;
     let ends = (LowCode::Return(Word(2)), LowCode::Done);
     let code = choose(alloc, Cond::Eq, (Word(1), Number(0)), ends, rest)?;
-    Ok(LowProc {
-        params: 3,
-        words: 4,
-        code,
-    })
+    Ok(proc(3, 4, code))
 }
 
 // The procedure of a product, told the number of its loop.
@@ -67,11 +84,7 @@ fn multiply(alloc: Global, loop_number: u32) -> Result<LowProc, OutOfMemory>
     ensures { IfOk result (λ proc. proc_of proc ≡ multiply loop_number) }
 {
     let code = tail_call(alloc, loop_number, &[Word(0), Word(1), Number(0)])?;
-    Ok(LowProc {
-        params: 2,
-        words: 2,
-        code,
-    })
+    Ok(proc(2, 2, code))
 }
 
 // The quotient or the remainder, with its sign.
@@ -79,20 +92,16 @@ fn signed_answer(alloc: Global) -> Result<LowCode, OutOfMemory>
     ensures { IfOk result (λ code. code_of code ≡ signed_answer) }
 {
     let turned = compute(alloc, WordOp::Sub, 2, (Number(0), Word(2)), LowCode::Done)?;
-    let rest = LowCode::Return(Word(2));
-    let rest = choose(
-        alloc,
-        Cond::Lt,
-        (Word(5), Number(0)),
-        (turned, LowCode::Done),
-        rest,
-    )?;
-    let quotient = set(alloc, 2, Word(3), LowCode::Done)?;
+    let ways = (turned, LowCode::Done);
+    let end = LowCode::Return(Word(2));
+    let rest = choose(alloc, Cond::Lt, (Word(5), Number(0)), ways, end);
+    let (quotient, rest) = both(set(alloc, 2, Word(3), LowCode::Done), rest)?;
+    let ways = (quotient, LowCode::Done);
     choose(
         alloc,
         Cond::Eq,
         (Word(6), Number(ASKS_QUOTIENT)),
-        (quotient, LowCode::Done),
+        ways,
         rest,
     )
 }
@@ -103,13 +112,8 @@ fn subtract_code(alloc: Global, rest: LowCode) -> Result<LowCode, OutOfMemory>
 {
     let gain = compute(alloc, WordOp::Add, 3, (Word(3), Number(1)), LowCode::Done)?;
     let lose = compute(alloc, WordOp::Sub, 2, (Word(2), Word(1)), gain)?;
-    choose(
-        alloc,
-        Cond::Ltu,
-        (Word(2), Word(1)),
-        (LowCode::Done, lose),
-        rest,
-    )
+    let ways = (LowCode::Done, lose);
+    choose(alloc, Cond::Ltu, (Word(2), Word(1)), ways, rest)
 }
 
 // The next bit of the dividend goes to the remainder.
@@ -128,63 +132,36 @@ fn next_bit(alloc: Global, rest: LowCode) -> Result<LowCode, OutOfMemory>
 fn quotient_loop(alloc: Global, own: u32) -> Result<LowProc, OutOfMemory>
     ensures { IfOk result (λ proc. proc_of proc ≡ quotient_loop own) }
 {
-    let words = [
-        Word(0),
-        Word(1),
-        Word(2),
-        Word(3),
-        Word(4),
-        Word(5),
-        Word(6),
-    ];
-    let rest = tail_call(alloc, own, &words)?;
-    let rest = subtract_code(alloc, rest)?;
-    let rest = next_bit(alloc, rest)?;
-    let ends = (signed_answer(alloc)?, LowCode::Done);
+    let rest = tail_call(alloc, own, &LOOP_WORDS)?;
+    let rest = next_bit(alloc, subtract_code(alloc, rest)?);
+    let (answer, rest) = both(signed_answer(alloc), rest)?;
+    let ends = (answer, LowCode::Done);
     let code = choose(alloc, Cond::Eq, (Word(4), Number(0)), ends, rest)?;
-    Ok(LowProc {
-        params: 7,
-        words: 8,
-        code,
-    })
+    Ok(proc(7, 8, code))
 }
 
 // A word without its sign.
 fn magnitude(alloc: Global, word: u32, of: u32, rest: LowCode) -> Result<LowCode, OutOfMemory>
     ensures { IfOk result (λ code. code_of code ≡ magnitude_code word of (code_of rest)) }
 {
-    let turned = compute(
-        alloc,
-        WordOp::Sub,
-        word,
-        (Number(0), Word(of)),
-        LowCode::Done,
-    )?;
-    let kept = set(alloc, word, Word(of), LowCode::Done)?;
-    choose(alloc, Cond::Lt, (Word(of), Number(0)), (turned, kept), rest)
+    let minus = (Number(0), Word(of));
+    let turned = compute(alloc, WordOp::Sub, word, minus, LowCode::Done);
+    let ways = both(turned, set(alloc, word, Word(of), LowCode::Done))?;
+    choose(alloc, Cond::Lt, (Word(of), Number(0)), ways, rest)
 }
 
 // The sign of the answer, and the call of the loop.
 fn signs(alloc: Global, loop_number: u32) -> Result<LowCode, OutOfMemory>
     ensures { IfOk result (λ code. code_of code ≡ sign_code loop_number) }
 {
-    let words = [
-        Word(3),
-        Word(4),
-        Number(0),
-        Number(0),
-        Number(64),
-        Word(5),
-        Word(2),
-    ];
-    let rest = tail_call(alloc, loop_number, &words)?;
-    let both = compute(alloc, WordOp::Xor, 5, (Word(0), Word(1)), LowCode::Done)?;
-    let first = set(alloc, 5, Word(0), LowCode::Done)?;
+    let quotient = compute(alloc, WordOp::Xor, 5, (Word(0), Word(1)), LowCode::Done);
+    let ways = both(quotient, set(alloc, 5, Word(0), LowCode::Done));
+    let (ways, rest) = both(ways, tail_call(alloc, loop_number, &FIRST_WORDS))?;
     choose(
         alloc,
         Cond::Eq,
         (Word(2), Number(ASKS_QUOTIENT)),
-        (both, first),
+        ways,
         rest,
     )
 }
@@ -193,22 +170,28 @@ fn signs(alloc: Global, loop_number: u32) -> Result<LowCode, OutOfMemory>
 fn divide(alloc: Global, loop_number: u32) -> Result<LowProc, OutOfMemory>
     ensures { IfOk result (λ proc. proc_of proc ≡ divide loop_number) }
 {
-    let rest = signs(alloc, loop_number)?;
-    let rest = magnitude(alloc, 4, 1, rest)?;
-    let rest = magnitude(alloc, 3, 0, rest)?;
-    let trapped = trap(alloc, Trap::ZeroDivisor, 3, 4)?;
-    let code = choose(
-        alloc,
-        Cond::Eq,
-        (Word(1), Number(0)),
-        (trapped, LowCode::Done),
-        rest,
-    )?;
-    Ok(LowProc {
-        params: 3,
-        words: 8,
-        code,
-    })
+    let rest = magnitude(alloc, 4, 1, signs(alloc, loop_number)?)?;
+    let rest = magnitude(alloc, 3, 0, rest);
+    let (trapped, rest) = both(trap(alloc, Trap::ZeroDivisor, 3, 4), rest)?;
+    let ways = (trapped, LowCode::Done);
+    let code = choose(alloc, Cond::Eq, (Word(1), Number(0)), ways, rest)?;
+    Ok(proc(3, 8, code))
+}
+
+/// The procedures of products and quotients, numbered from `first` on, go last.
+pub fn with_arithmetic(
+    alloc: Global,
+    procs: Result<LowProcs, OutOfMemory>,
+    first: u32,
+) -> Result<LowProcs, OutOfMemory>
+    requires { first + 4 ≤ 2 ^ 32 }
+    ensures { (before : List Proc) → IfOk procs (λ all. procs_of all ≡ before)
+        → IfOk result (λ all. procs_of all ≡ before ++ arithmetic_procs first) }
+{
+    let procs = with_proc(procs, product_loop(alloc, first));
+    let procs = with_proc(procs, quotient_loop(alloc, first + 1));
+    let procs = with_proc(procs, multiply(alloc, first));
+    with_proc(procs, divide(alloc, first + 1))
 }
 
 /// The procedures of products and quotients, numbered from `first` on: two loops, then that of the product, which takes
@@ -218,12 +201,7 @@ pub fn arithmetic_procs(alloc: Global, first: u32) -> Result<LowProcs, OutOfMemo
     requires { first + 4 ≤ 2 ^ 32 }
     ensures { IfOk result (λ procs. procs_of procs ≡ arithmetic_procs first) }
 {
-    let mut procs = LowProcs::new(alloc);
-    procs.push(product_loop(alloc, first)?)?;
-    procs.push(quotient_loop(alloc, first + 1)?)?;
-    procs.push(multiply(alloc, first)?)?;
-    procs.push(divide(alloc, first + 1)?)?;
-    Ok(procs)
+    with_arithmetic(alloc, Ok(LowProcs::new(alloc)), first)
 }
 
 /// All nine procedures, numbered from `first` on, where `cast` is the number of the procedure that casts. Apply takes
@@ -235,18 +213,11 @@ pub fn ref_procs(alloc: Global, first: u32, cast: u32) -> Result<LowProcs, OutOf
     requires { first + 9 ≤ 2 ^ 32 }
     ensures { IfOk result (λ procs. procs_of procs ≡ ref_procs first cast) }
 {
-    let mut procs = LowProcs::new(alloc);
-    procs.push(apply_proc(alloc, cast)?)?;
-    procs.push(read_proc(alloc, cast)?)?;
-    procs.push(write_proc(alloc, cast)?)?;
     let fills = RefProc::FillLoop.number(first);
-    procs.push(fill_proc(alloc, fills)?)?;
-    procs.push(fill_loop(alloc, fills)?)?;
-    let products = RefProc::ProductLoop.number(first);
-    let quotients = RefProc::QuotientLoop.number(first);
-    procs.push(product_loop(alloc, products)?)?;
-    procs.push(quotient_loop(alloc, quotients)?)?;
-    procs.push(multiply(alloc, products)?)?;
-    procs.push(divide(alloc, quotients)?)?;
-    Ok(procs)
+    let procs = with_proc(Ok(LowProcs::new(alloc)), apply_proc(alloc, cast));
+    let procs = with_proc(procs, read_proc(alloc, cast));
+    let procs = with_proc(procs, write_proc(alloc, cast));
+    let procs = with_proc(procs, fill_proc(alloc, fills));
+    let procs = with_proc(procs, fill_loop(alloc, fills));
+    with_arithmetic(alloc, procs, RefProc::ProductLoop.number(first))
 }

@@ -3,7 +3,8 @@ use Rattle.std.proofs.Common.{ℕ, zero, suc, ◌+◌, ◌-◌, ◌*◌, ◌/◌
 use Rattle.std.proofs.Common.{List, [], ◌∷◌, length, get_or, replicate, Option, None, refl, sym, ◌∙◌, ap, arith}
 use Rattle.std.proofs.lemmas.Bool.{cases_lt, cases_eq, true≢false}
 use Rattle.std.proofs.lemmas.List.Folds.{list_all_at}
-use Rattle.std.proofs.lemmas.List.{get_or-set_same, get_or-set_other, get_or-replicate, get_or_past, length-replicate}
+use Rattle.std.proofs.lemmas.List.{get_or-set_same, get_or-set_other, get_or-replicate, get_or_past, get_or_read}
+use Rattle.std.proofs.lemmas.List.{length-replicate}
 use Rattle.std.proofs.Math.ListN.{set}
 use Rattle.std.proofs.Math.Path.{fun_ext}
 use Rattle.std.specs.Prelude.{nat_lt, is_some, Result, Ok, Err, OnOk, OnErr}
@@ -46,6 +47,18 @@ pub load_paged : (k size at : ℕ) (pages : List (Option (Box (List ℕ)))) → 
     ≡ load_bytes k (memory_of (page_bytes (page_at pages (at / 4096)))) (at % 4096)
 load_paged k size at pages h s =
     load_same k _ _ at (at % 4096) (λ i p. paged_byte size at i pages (omega arith) (omega arith))
+
+-- so does one of what was read as that page
+pub load_read : (w : Width) (size at : ℕ) (pages : List (Option (Box (List ℕ)))) (read page : Option (Box (List ℕ)))
+    → at % byte_len (width_of w) ≡ 0 → at + byte_len (width_of w) ≤ size → size ≤ 4096 * length pages
+    → read ≡ get_or pages (at / 4096) read → read ≡ page
+    → load_bytes (byte_len (width_of w)) (memory_of (page_bytes page)) (at % 4096)
+    ≡ load_bytes (byte_len (width_of w)) (paged_memory size pages) at
+load_read w size at pages read page aligned inside covers there is =
+    let k = byte_len (width_of w) in
+    let e = get_or_read pages (at / 4096) read (page_there w size at (length pages) inside covers) there None in
+    ap (λ p. load_bytes k (memory_of (page_bytes p)) (at % 4096)) (sym is ∙ e)
+    ∙ sym (load_paged k size at pages (in_one_page w at aligned) inside)
 
 -- a page that is missing reads as zero
 pub load_missing : (k at : ℕ) → load_bytes k (memory_of []) at ≡ 0

@@ -51,16 +51,7 @@ start_sound bytes region stack n e k p i r s c d f g h l =
     let code = i.code in
     let entry_place = i.entry_place in
     let labels = i.labels in
-    record {
-      start = omega arith;
-      code = omega arith;
-      region = omega arith;
-      order = omega arith;
-      room = omega arith;
-      size = omega arith;
-      labels = omega arith;
-      aligned = omega arith;
-    }
+    search arith
 
 same_layout : (c c' d d' e e' : ℕ) (l l' : List Pos) → c ≡ c' → d ≡ d' → e ≡ e' → l ≡ l'
     → ◌≡◌ {A = Layout} (record { code = c; region = d; end = e; labels = l })

@@ -28,7 +28,7 @@ use rv_isa::inst::Inst;
 use rv_isa::number::{Imm12, Imm13, Reg, Upper};
 
 /// Where code begins, where it ends and the region begins, and where memory ends.
-#[derive(Clone, Copy, PartialEq, Eq, Debug)]
+#[derive(Clone, Copy)]
 pub struct Places {
     pub code: u64,
     pub region: u64,
@@ -67,6 +67,13 @@ pub struct Processor<R> {
     pub regs: Registers,
     pub ram: R,
     pub console: Console,
+}
+
+// What a store does: the word of one register goes to an address by another.
+macro_rules! stored {
+    ($processor:expr, $word:expr, $base:expr, $offset:expr, $width:ident) => {
+        Action::Store($processor.get($word), $processor.at($base, $offset), Width::$width)
+    };
 }
 
 impl<R: Ram> Processor<R> {
@@ -310,26 +317,10 @@ impl<R: Ram> Processor<R> {
             Inst::Lbu(rd, rs1, offset) => Action::Load(rd, self.at(rs1, offset), Width::B1, false),
             Inst::Lhu(rd, rs1, offset) => Action::Load(rd, self.at(rs1, offset), Width::B2, false),
             Inst::Lwu(rd, rs1, offset) => Action::Load(rd, self.at(rs1, offset), Width::B4, false),
-            Inst::Sb(rs2, rs1, offset) => Action::Store(
-                self.get(rs2),
-                self.at(rs1, offset),
-                Width::B1,
-            ),
-            Inst::Sh(rs2, rs1, offset) => Action::Store(
-                self.get(rs2),
-                self.at(rs1, offset),
-                Width::B2,
-            ),
-            Inst::Sw(rs2, rs1, offset) => Action::Store(
-                self.get(rs2),
-                self.at(rs1, offset),
-                Width::B4,
-            ),
-            Inst::Sd(rs2, rs1, offset) => Action::Store(
-                self.get(rs2),
-                self.at(rs1, offset),
-                Width::B8,
-            ),
+            Inst::Sb(rs2, rs1, offset) => stored!(self, rs2, rs1, offset, B1),
+            Inst::Sh(rs2, rs1, offset) => stored!(self, rs2, rs1, offset, B2),
+            Inst::Sw(rs2, rs1, offset) => stored!(self, rs2, rs1, offset, B4),
+            Inst::Sd(rs2, rs1, offset) => stored!(self, rs2, rs1, offset, B8),
             Inst::Addi(rd, rs1, imm) => Action::Put(rd, self.at(rs1, imm)),
             Inst::Slti(rd, rs1, imm) => Action::Put(
                 rd,

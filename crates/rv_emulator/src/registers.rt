@@ -8,7 +8,7 @@ use rv_isa::number::Reg;
 use std::marker::Model;
 
 /// 32 words, of which the first reads as 0.
-#[derive(Clone, Copy, PartialEq, Eq, Debug)]
+#[derive(Clone, Copy)]
 pub struct Registers {
     words: [u64; 32],
 }

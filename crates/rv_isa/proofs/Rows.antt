@@ -3,18 +3,14 @@ use Rattle.std.proofs.Common.{ℕ, ◌+◌, ◌*◌, ◌%◌, ◌^◌, ◌<◌, 
 use Rattle.std.specs.Prelude.{ℤ}
 use Rattle.rv_isa.specs.declared.fields.Fields.{Fields}
 use Rattle.rv_isa.specs.declared.inst.Inst.{Inst}
-use Rattle.rv_isa.specs.declared.inst.Inst.TheVariants.{Lui, Auipc, Jal, Jalr, Beq, Bne, Blt, Bge, Bltu, Bgeu, Lb, Lh}
-use Rattle.rv_isa.specs.declared.inst.Inst.TheVariants.{Lw, Ld, Lbu, Lhu, Lwu, Sb, Sh, Sw, Sd, Addi, Slti, Sltiu, Xori}
-use Rattle.rv_isa.specs.declared.inst.Inst.TheVariants.{Ori, Andi, Slli, Srli, Srai, Add, Sub, Sll, Slt, Sltu, Xor, Srl}
-use Rattle.rv_isa.specs.declared.inst.Inst.TheVariants.{Sra, Or, And, Addiw, Slliw, Srliw, Sraiw, Addw, Subw, Sllw}
-use Rattle.rv_isa.specs.declared.inst.Inst.TheVariants.{Srlw, Sraw, Fence, Ecall, Ebreak}
 use Rattle.rv_isa.specs.Bits.{bits, signed, low_bits, IsIn, IsEven}
 use Rattle.rv_isa.specs.Fields.{fields_of}
 use Rattle.rv_isa.specs.Table.{IsWordOf, IsRegisterForm, IsImmediateForm, IsShiftForm, IsStoreForm, IsBranchForm}
-use Rattle.rv_isa.specs.Table.{IsUpperForm, IsJumpForm}
+use Rattle.rv_isa.specs.Table.{IsUpperForm, IsJumpForm, Form, HasForm, form_of, RegisterForm, ImmediateForm, ShiftForm}
+use Rattle.rv_isa.specs.Table.{WordShiftForm, StoreForm, BranchForm, UpperForm, JumpForm, WholeWord}
 use Rattle.rv_isa.specs.Encoding.{inst_fields, register_form, immediate_form, shift_form, store_form, branch_form}
-use Rattle.rv_isa.specs.Encoding.{upper_form, jump_form}
-use Rattle.rv_isa.specs.Valid.{IsValid}
+use Rattle.rv_isa.specs.Encoding.{upper_form, jump_form, form_fields}
+use Rattle.rv_isa.specs.Valid.{IsValid, HasRanges}
 use Rattle.rv_isa.proofs.SignedBits.{low_bits-signed, signed_in, signed_even}
 
 -- a signed number that is told by its bits
@@ -103,56 +99,19 @@ jump_cut word rd offset b h =
           (omega arith) (omega arith),
     )
 
+form_cut : (word : ℕ) → word < 2 ^ 32 → (form : Form) → HasForm form word
+    → HasRanges form × (form_fields form ≡ fields_of word)
+form_cut word b (RegisterForm opcode funct3 funct7 rd rs1 rs2) h =
+    register_cut word opcode funct3 funct7 rd rs1 rs2 b h
+form_cut word b (ImmediateForm opcode funct3 rd rs1 immediate) h =
+    immediate_cut word opcode funct3 rd rs1 immediate b h
+form_cut word b (ShiftForm funct3 kind rd rs1 amount) h = shift_cut word funct3 kind rd rs1 amount b h
+form_cut word b (WordShiftForm funct3 funct7 rd rs1 amount) h = register_cut word 0x1B funct3 funct7 rd rs1 amount b h
+form_cut word b (StoreForm funct3 rs2 rs1 offset) h = store_cut word funct3 rs2 rs1 offset b h
+form_cut word b (BranchForm funct3 rs1 rs2 offset) h = branch_cut word funct3 rs1 rs2 offset b h
+form_cut word b (UpperForm opcode rd upper) h = upper_cut word opcode rd upper b h
+form_cut word b (JumpForm rd offset) h = jump_cut word rd offset b h
+form_cut word b (WholeWord all) h = (tt, ap fields_of (sym h))
+
 pub row_cut : (word : ℕ) → word < 2 ^ 32 → (i : Inst) → IsWordOf i word → IsValid i × (inst_fields i ≡ fields_of word)
-row_cut word b (Lui rd upper) h = upper_cut word 0x37 rd upper b h
-row_cut word b (Auipc rd upper) h = upper_cut word 0x17 rd upper b h
-row_cut word b (Jal rd offset) h = jump_cut word rd offset b h
-row_cut word b (Jalr rd rs1 immediate) h = immediate_cut word 0x67 0 rd rs1 immediate b h
-row_cut word b (Beq rs1 rs2 offset) h = branch_cut word 0 rs1 rs2 offset b h
-row_cut word b (Bne rs1 rs2 offset) h = branch_cut word 1 rs1 rs2 offset b h
-row_cut word b (Blt rs1 rs2 offset) h = branch_cut word 4 rs1 rs2 offset b h
-row_cut word b (Bge rs1 rs2 offset) h = branch_cut word 5 rs1 rs2 offset b h
-row_cut word b (Bltu rs1 rs2 offset) h = branch_cut word 6 rs1 rs2 offset b h
-row_cut word b (Bgeu rs1 rs2 offset) h = branch_cut word 7 rs1 rs2 offset b h
-row_cut word b (Lb rd rs1 immediate) h = immediate_cut word 0x03 0 rd rs1 immediate b h
-row_cut word b (Lh rd rs1 immediate) h = immediate_cut word 0x03 1 rd rs1 immediate b h
-row_cut word b (Lw rd rs1 immediate) h = immediate_cut word 0x03 2 rd rs1 immediate b h
-row_cut word b (Ld rd rs1 immediate) h = immediate_cut word 0x03 3 rd rs1 immediate b h
-row_cut word b (Lbu rd rs1 immediate) h = immediate_cut word 0x03 4 rd rs1 immediate b h
-row_cut word b (Lhu rd rs1 immediate) h = immediate_cut word 0x03 5 rd rs1 immediate b h
-row_cut word b (Lwu rd rs1 immediate) h = immediate_cut word 0x03 6 rd rs1 immediate b h
-row_cut word b (Sb rs2 rs1 offset) h = store_cut word 0 rs2 rs1 offset b h
-row_cut word b (Sh rs2 rs1 offset) h = store_cut word 1 rs2 rs1 offset b h
-row_cut word b (Sw rs2 rs1 offset) h = store_cut word 2 rs2 rs1 offset b h
-row_cut word b (Sd rs2 rs1 offset) h = store_cut word 3 rs2 rs1 offset b h
-row_cut word b (Addi rd rs1 immediate) h = immediate_cut word 0x13 0 rd rs1 immediate b h
-row_cut word b (Slti rd rs1 immediate) h = immediate_cut word 0x13 2 rd rs1 immediate b h
-row_cut word b (Sltiu rd rs1 immediate) h = immediate_cut word 0x13 3 rd rs1 immediate b h
-row_cut word b (Xori rd rs1 immediate) h = immediate_cut word 0x13 4 rd rs1 immediate b h
-row_cut word b (Ori rd rs1 immediate) h = immediate_cut word 0x13 6 rd rs1 immediate b h
-row_cut word b (Andi rd rs1 immediate) h = immediate_cut word 0x13 7 rd rs1 immediate b h
-row_cut word b (Slli rd rs1 amount) h = shift_cut word 1 0 rd rs1 amount b h
-row_cut word b (Srli rd rs1 amount) h = shift_cut word 5 0 rd rs1 amount b h
-row_cut word b (Srai rd rs1 amount) h = shift_cut word 5 0x10 rd rs1 amount b h
-row_cut word b (Add rd rs1 rs2) h = register_cut word 0x33 0 0 rd rs1 rs2 b h
-row_cut word b (Sub rd rs1 rs2) h = register_cut word 0x33 0 0x20 rd rs1 rs2 b h
-row_cut word b (Sll rd rs1 rs2) h = register_cut word 0x33 1 0 rd rs1 rs2 b h
-row_cut word b (Slt rd rs1 rs2) h = register_cut word 0x33 2 0 rd rs1 rs2 b h
-row_cut word b (Sltu rd rs1 rs2) h = register_cut word 0x33 3 0 rd rs1 rs2 b h
-row_cut word b (Xor rd rs1 rs2) h = register_cut word 0x33 4 0 rd rs1 rs2 b h
-row_cut word b (Srl rd rs1 rs2) h = register_cut word 0x33 5 0 rd rs1 rs2 b h
-row_cut word b (Sra rd rs1 rs2) h = register_cut word 0x33 5 0x20 rd rs1 rs2 b h
-row_cut word b (Or rd rs1 rs2) h = register_cut word 0x33 6 0 rd rs1 rs2 b h
-row_cut word b (And rd rs1 rs2) h = register_cut word 0x33 7 0 rd rs1 rs2 b h
-row_cut word b (Addiw rd rs1 immediate) h = immediate_cut word 0x1B 0 rd rs1 immediate b h
-row_cut word b (Slliw rd rs1 amount) h = register_cut word 0x1B 1 0 rd rs1 amount b h
-row_cut word b (Srliw rd rs1 amount) h = register_cut word 0x1B 5 0 rd rs1 amount b h
-row_cut word b (Sraiw rd rs1 amount) h = register_cut word 0x1B 5 0x20 rd rs1 amount b h
-row_cut word b (Addw rd rs1 rs2) h = register_cut word 0x3B 0 0 rd rs1 rs2 b h
-row_cut word b (Subw rd rs1 rs2) h = register_cut word 0x3B 0 0x20 rd rs1 rs2 b h
-row_cut word b (Sllw rd rs1 rs2) h = register_cut word 0x3B 1 0 rd rs1 rs2 b h
-row_cut word b (Srlw rd rs1 rs2) h = register_cut word 0x3B 5 0 rd rs1 rs2 b h
-row_cut word b (Sraw rd rs1 rs2) h = register_cut word 0x3B 5 0x20 rd rs1 rs2 b h
-row_cut word b (Fence rd rs1 immediate) h = immediate_cut word 0x0F 0 rd rs1 immediate b h
-row_cut word b Ecall h = (tt, ap fields_of (sym h))
-row_cut word b Ebreak h = (tt, ap fields_of (sym h))
+row_cut word b i h = form_cut word b (form_of i) h

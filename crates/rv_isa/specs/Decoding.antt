@@ -1,5 +1,6 @@
 -- The instruction that the fields of a word make, if any.
-use Rattle.std.specs.Prelude.{ℕ, ◌+◌, ◌*◌, ◌/◌, ◌%◌, ℤ, Option, Some, None, ◌==◌, ◌&&◌, if◌then◌else◌}
+use Rattle.std.specs.Prelude.{ℕ, ◌+◌, ◌*◌, ◌/◌, ◌%◌, ℤ, List, [], ◌∷◌, Option, Some, None, ◌==◌, ◌&&◌}
+use Rattle.std.specs.Prelude.{if◌then◌else◌}
 use Rattle.rv_isa.specs.declared.fields.Fields.{Fields}
 use Rattle.rv_isa.specs.declared.inst.Inst.{Inst}
 use Rattle.rv_isa.specs.declared.inst.Inst.TheVariants.{Lui, Auipc, Jal, Jalr, Beq, Bne, Blt, Bge, Bltu, Bgeu, Lb, Lh}
@@ -34,88 +35,88 @@ jump_offset_in f =
 abbrev pub shift_amount_in : Fields → ℕ
 shift_amount_in f = f.rs2 + 32 * (f.funct7 % 2)
 
-abbrev pub jump_register_inst : Fields → Option Inst
-jump_register_inst f =
-    if f.funct3 == 0 then Some (Jalr f.rd f.rs1 (immediate_in f))
-    else None
+-- the instruction that stands beside the number in a list; where none does, what is told for that
+abbrev pub at_number : ℕ → List (ℕ × Inst) → Option Inst → Option Inst
+at_number n [] other = other
+at_number n (row ∷ rest) other = if n == row.0 then Some row.1 else at_number n rest other
+
+-- the same for two numbers
+abbrev pub at_numbers : ℕ → ℕ → List (ℕ × ℕ × Inst) → Option Inst → Option Inst
+at_numbers m n [] other = other
+at_numbers m n (row ∷ rest) other = if (m == row.0) && (n == row.1) then Some row.2 else at_numbers m n rest other
+
+-- The instructions of an opcode, each behind its funct3. Where lists have two numbers the second is the one of funct7,
+-- which has to be this; of shifts by an amount in a word of 64 bits it is funct7 / 2.
+abbrev pub jump_registers : Fields → List (ℕ × Inst)
+jump_registers f = (0, Jalr f.rd f.rs1 (immediate_in f)) ∷ []
+
+abbrev pub branches : Fields → List (ℕ × Inst)
+branches f =
+    let made = λ (make : ℕ → ℕ → ℤ → Inst). make f.rs1 f.rs2 (branch_offset_in f) in
+    (0, made Beq) ∷ (1, made Bne) ∷ (4, made Blt) ∷ (5, made Bge) ∷ (6, made Bltu) ∷ (7, made Bgeu) ∷ []
+
+abbrev pub loads : Fields → List (ℕ × Inst)
+loads f =
+    let made = λ (make : ℕ → ℕ → ℤ → Inst). make f.rd f.rs1 (immediate_in f) in
+    (0, made Lb) ∷ (1, made Lh) ∷ (2, made Lw) ∷ (3, made Ld) ∷ (4, made Lbu) ∷ (5, made Lhu) ∷ (6, made Lwu) ∷ []
+
+abbrev pub stores : Fields → List (ℕ × Inst)
+stores f =
+    let made = λ (make : ℕ → ℕ → ℤ → Inst). make f.rs2 f.rs1 (store_offset_in f) in
+    (0, made Sb) ∷ (1, made Sh) ∷ (2, made Sw) ∷ (3, made Sd) ∷ []
+
+abbrev pub immediates : Fields → List (ℕ × Inst)
+immediates f =
+    let made = λ (make : ℕ → ℕ → ℤ → Inst). make f.rd f.rs1 (immediate_in f) in
+    (0, made Addi) ∷ (2, made Slti) ∷ (3, made Sltiu) ∷ (4, made Xori) ∷ (6, made Ori) ∷ (7, made Andi) ∷ []
+
+abbrev pub shifts : Fields → List (ℕ × ℕ × Inst)
+shifts f =
+    let made = λ (make : ℕ → ℕ → ℕ → Inst). make f.rd f.rs1 (shift_amount_in f) in
+    (1, 0, made Slli) ∷ (5, 0, made Srli) ∷ (5, 0x10, made Srai) ∷ []
+
+abbrev pub registers : Fields → List (ℕ × ℕ × Inst)
+registers f =
+    let made = λ (make : ℕ → ℕ → ℕ → Inst). make f.rd f.rs1 f.rs2 in
+    (0, 0, made Add) ∷ (0, 0x20, made Sub) ∷ (1, 0, made Sll) ∷ (2, 0, made Slt) ∷ (3, 0, made Sltu) ∷
+    (4, 0, made Xor) ∷ (5, 0, made Srl) ∷ (5, 0x20, made Sra) ∷ (6, 0, made Or) ∷ (7, 0, made And) ∷ []
+
+abbrev pub word_shifts : Fields → List (ℕ × ℕ × Inst)
+word_shifts f =
+    let made = λ (make : ℕ → ℕ → ℕ → Inst). make f.rd f.rs1 f.rs2 in
+    (1, 0, made Slliw) ∷ (5, 0, made Srliw) ∷ (5, 0x20, made Sraiw) ∷ []
+
+abbrev pub word_immediates : Fields → List (ℕ × Inst)
+word_immediates f = (0, Addiw f.rd f.rs1 (immediate_in f)) ∷ []
+
+abbrev pub word_registers : Fields → List (ℕ × ℕ × Inst)
+word_registers f =
+    let made = λ (make : ℕ → ℕ → ℕ → Inst). make f.rd f.rs1 f.rs2 in
+    (0, 0, made Addw) ∷ (0, 0x20, made Subw) ∷ (1, 0, made Sllw) ∷ (5, 0, made Srlw) ∷ (5, 0x20, made Sraw) ∷ []
+
+abbrev pub fences : Fields → List (ℕ × Inst)
+fences f = (0, Fence f.rd f.rs1 (immediate_in f)) ∷ []
 
 abbrev pub branch_inst : Fields → Option Inst
-branch_inst f =
-    if f.funct3 == 0 then Some (Beq f.rs1 f.rs2 (branch_offset_in f))
-    else if f.funct3 == 1 then Some (Bne f.rs1 f.rs2 (branch_offset_in f))
-    else if f.funct3 == 4 then Some (Blt f.rs1 f.rs2 (branch_offset_in f))
-    else if f.funct3 == 5 then Some (Bge f.rs1 f.rs2 (branch_offset_in f))
-    else if f.funct3 == 6 then Some (Bltu f.rs1 f.rs2 (branch_offset_in f))
-    else if f.funct3 == 7 then Some (Bgeu f.rs1 f.rs2 (branch_offset_in f))
-    else None
+branch_inst f = at_number f.funct3 (branches f) None
 
 abbrev pub load_inst : Fields → Option Inst
-load_inst f =
-    if f.funct3 == 0 then Some (Lb f.rd f.rs1 (immediate_in f))
-    else if f.funct3 == 1 then Some (Lh f.rd f.rs1 (immediate_in f))
-    else if f.funct3 == 2 then Some (Lw f.rd f.rs1 (immediate_in f))
-    else if f.funct3 == 3 then Some (Ld f.rd f.rs1 (immediate_in f))
-    else if f.funct3 == 4 then Some (Lbu f.rd f.rs1 (immediate_in f))
-    else if f.funct3 == 5 then Some (Lhu f.rd f.rs1 (immediate_in f))
-    else if f.funct3 == 6 then Some (Lwu f.rd f.rs1 (immediate_in f))
-    else None
+load_inst f = at_number f.funct3 (loads f) None
 
 abbrev pub store_inst : Fields → Option Inst
-store_inst f =
-    if f.funct3 == 0 then Some (Sb f.rs2 f.rs1 (store_offset_in f))
-    else if f.funct3 == 1 then Some (Sh f.rs2 f.rs1 (store_offset_in f))
-    else if f.funct3 == 2 then Some (Sw f.rs2 f.rs1 (store_offset_in f))
-    else if f.funct3 == 3 then Some (Sd f.rs2 f.rs1 (store_offset_in f))
-    else None
+store_inst f = at_number f.funct3 (stores f) None
 
 abbrev pub immediate_inst : Fields → Option Inst
-immediate_inst f =
-    if f.funct3 == 0 then Some (Addi f.rd f.rs1 (immediate_in f))
-    else if f.funct3 == 2 then Some (Slti f.rd f.rs1 (immediate_in f))
-    else if f.funct3 == 3 then Some (Sltiu f.rd f.rs1 (immediate_in f))
-    else if f.funct3 == 4 then Some (Xori f.rd f.rs1 (immediate_in f))
-    else if f.funct3 == 6 then Some (Ori f.rd f.rs1 (immediate_in f))
-    else if f.funct3 == 7 then Some (Andi f.rd f.rs1 (immediate_in f))
-    else if (f.funct3 == 1) && (f.funct7 / 2 == 0) then Some (Slli f.rd f.rs1 (shift_amount_in f))
-    else if (f.funct3 == 5) && (f.funct7 / 2 == 0) then Some (Srli f.rd f.rs1 (shift_amount_in f))
-    else if (f.funct3 == 5) && (f.funct7 / 2 == 0x10) then Some (Srai f.rd f.rs1 (shift_amount_in f))
-    else None
+immediate_inst f = at_number f.funct3 (immediates f) (at_numbers f.funct3 (f.funct7 / 2) (shifts f) None)
 
 abbrev pub register_inst : Fields → Option Inst
-register_inst f =
-    if (f.funct3 == 0) && (f.funct7 == 0) then Some (Add f.rd f.rs1 f.rs2)
-    else if (f.funct3 == 0) && (f.funct7 == 0x20) then Some (Sub f.rd f.rs1 f.rs2)
-    else if (f.funct3 == 1) && (f.funct7 == 0) then Some (Sll f.rd f.rs1 f.rs2)
-    else if (f.funct3 == 2) && (f.funct7 == 0) then Some (Slt f.rd f.rs1 f.rs2)
-    else if (f.funct3 == 3) && (f.funct7 == 0) then Some (Sltu f.rd f.rs1 f.rs2)
-    else if (f.funct3 == 4) && (f.funct7 == 0) then Some (Xor f.rd f.rs1 f.rs2)
-    else if (f.funct3 == 5) && (f.funct7 == 0) then Some (Srl f.rd f.rs1 f.rs2)
-    else if (f.funct3 == 5) && (f.funct7 == 0x20) then Some (Sra f.rd f.rs1 f.rs2)
-    else if (f.funct3 == 6) && (f.funct7 == 0) then Some (Or f.rd f.rs1 f.rs2)
-    else if (f.funct3 == 7) && (f.funct7 == 0) then Some (And f.rd f.rs1 f.rs2)
-    else None
+register_inst f = at_numbers f.funct3 f.funct7 (registers f) None
 
 abbrev pub word_immediate_inst : Fields → Option Inst
-word_immediate_inst f =
-    if (f.funct3 == 1) && (f.funct7 == 0) then Some (Slliw f.rd f.rs1 f.rs2)
-    else if (f.funct3 == 5) && (f.funct7 == 0) then Some (Srliw f.rd f.rs1 f.rs2)
-    else if (f.funct3 == 5) && (f.funct7 == 0x20) then Some (Sraiw f.rd f.rs1 f.rs2)
-    else if f.funct3 == 0 then Some (Addiw f.rd f.rs1 (immediate_in f))
-    else None
+word_immediate_inst f = at_numbers f.funct3 f.funct7 (word_shifts f) (at_number f.funct3 (word_immediates f) None)
 
 abbrev pub word_register_inst : Fields → Option Inst
-word_register_inst f =
-    if (f.funct3 == 0) && (f.funct7 == 0) then Some (Addw f.rd f.rs1 f.rs2)
-    else if (f.funct3 == 0) && (f.funct7 == 0x20) then Some (Subw f.rd f.rs1 f.rs2)
-    else if (f.funct3 == 1) && (f.funct7 == 0) then Some (Sllw f.rd f.rs1 f.rs2)
-    else if (f.funct3 == 5) && (f.funct7 == 0) then Some (Srlw f.rd f.rs1 f.rs2)
-    else if (f.funct3 == 5) && (f.funct7 == 0x20) then Some (Sraw f.rd f.rs1 f.rs2)
-    else None
-
-abbrev pub fence_inst : Fields → Option Inst
-fence_inst f =
-    if f.funct3 == 0 then Some (Fence f.rd f.rs1 (immediate_in f))
-    else None
+word_register_inst f = at_numbers f.funct3 f.funct7 (word_registers f) None
 
 abbrev pub system_inst : Fields → Option Inst
 system_inst f =
@@ -128,7 +129,7 @@ inst_of f =
     if f.opcode == 0x37 then Some (Lui f.rd (upper_in f))
     else if f.opcode == 0x17 then Some (Auipc f.rd (upper_in f))
     else if f.opcode == 0x6F then Some (Jal f.rd (jump_offset_in f))
-    else if f.opcode == 0x67 then jump_register_inst f
+    else if f.opcode == 0x67 then at_number f.funct3 (jump_registers f) None
     else if f.opcode == 0x63 then branch_inst f
     else if f.opcode == 0x03 then load_inst f
     else if f.opcode == 0x23 then store_inst f
@@ -136,7 +137,7 @@ inst_of f =
     else if f.opcode == 0x33 then register_inst f
     else if f.opcode == 0x1B then word_immediate_inst f
     else if f.opcode == 0x3B then word_register_inst f
-    else if f.opcode == 0x0F then fence_inst f
+    else if f.opcode == 0x0F then at_number f.funct3 (fences f) None
     else if f.opcode == 0x73 then system_inst f
     else None
 

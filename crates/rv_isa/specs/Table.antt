@@ -100,59 +100,88 @@ pub record IsJumpForm (word opcode rd : ℕ) (offset : ℤ) : Type 0 where
   pub same_rd : rd_of word ≡ rd
   pub same_offset : jump_offset_of word ≡ offset
 
--- The word is one of the instruction. Each line has the opcode, then funct3 where the form has one, then what
--- tells instructions of one funct3 apart, then the parts. The amount of a shift of 32 bits, bits 20 to 24, stands
--- in the place of rs2.
+-- The forms. Each has first what tells its instructions apart (the opcode, where the form has several, then funct3, and
+-- what tells those of one funct3 apart), and then the parts of an instruction.
+pub data Form : Type 0 where
+  RegisterForm : (opcode funct3 funct7 rd rs1 rs2 : ℕ) → Form
+  ImmediateForm : (opcode funct3 rd rs1 : ℕ) (immediate : ℤ) → Form
+  ShiftForm : (funct3 kind rd rs1 amount : ℕ) → Form
+  -- a shift of 32 bits: its amount, bits 20 to 24, stands in the place of rs2
+  WordShiftForm : (funct3 funct7 rd rs1 amount : ℕ) → Form
+  StoreForm : (funct3 rs2 rs1 : ℕ) (offset : ℤ) → Form
+  BranchForm : (funct3 rs1 rs2 : ℕ) (offset : ℤ) → Form
+  UpperForm : (opcode rd upper : ℕ) → Form
+  JumpForm : (rd : ℕ) (offset : ℤ) → Form
+  -- all of the word is given
+  WholeWord : ℕ → Form
+
+-- a word has this form with these numbers; where a form has one opcode, it stands here
+abbrev pub HasForm : Form → ℕ → Type 0
+HasForm (RegisterForm opcode funct3 funct7 rd rs1 rs2) word = IsRegisterForm word opcode funct3 funct7 rd rs1 rs2
+HasForm (ImmediateForm opcode funct3 rd rs1 immediate) word = IsImmediateForm word opcode funct3 rd rs1 immediate
+HasForm (ShiftForm funct3 kind rd rs1 amount) word = IsShiftForm word 0x13 funct3 kind rd rs1 amount
+HasForm (WordShiftForm funct3 funct7 rd rs1 amount) word = IsRegisterForm word 0x1B funct3 funct7 rd rs1 amount
+HasForm (StoreForm funct3 rs2 rs1 offset) word = IsStoreForm word 0x23 funct3 rs2 rs1 offset
+HasForm (BranchForm funct3 rs1 rs2 offset) word = IsBranchForm word 0x63 funct3 rs1 rs2 offset
+HasForm (UpperForm opcode rd upper) word = IsUpperForm word opcode rd upper
+HasForm (JumpForm rd offset) word = IsJumpForm word 0x6F rd offset
+HasForm (WholeWord all) word = word ≡ all
+
+-- the form of each instruction, with its numbers
+abbrev pub form_of : Inst → Form
+form_of (Lui rd upper) = UpperForm 0x37 rd upper
+form_of (Auipc rd upper) = UpperForm 0x17 rd upper
+form_of (Jal rd offset) = JumpForm rd offset
+form_of (Jalr rd rs1 immediate) = ImmediateForm 0x67 0 rd rs1 immediate
+form_of (Beq rs1 rs2 offset) = BranchForm 0 rs1 rs2 offset
+form_of (Bne rs1 rs2 offset) = BranchForm 1 rs1 rs2 offset
+form_of (Blt rs1 rs2 offset) = BranchForm 4 rs1 rs2 offset
+form_of (Bge rs1 rs2 offset) = BranchForm 5 rs1 rs2 offset
+form_of (Bltu rs1 rs2 offset) = BranchForm 6 rs1 rs2 offset
+form_of (Bgeu rs1 rs2 offset) = BranchForm 7 rs1 rs2 offset
+form_of (Lb rd rs1 immediate) = ImmediateForm 0x03 0 rd rs1 immediate
+form_of (Lh rd rs1 immediate) = ImmediateForm 0x03 1 rd rs1 immediate
+form_of (Lw rd rs1 immediate) = ImmediateForm 0x03 2 rd rs1 immediate
+form_of (Ld rd rs1 immediate) = ImmediateForm 0x03 3 rd rs1 immediate
+form_of (Lbu rd rs1 immediate) = ImmediateForm 0x03 4 rd rs1 immediate
+form_of (Lhu rd rs1 immediate) = ImmediateForm 0x03 5 rd rs1 immediate
+form_of (Lwu rd rs1 immediate) = ImmediateForm 0x03 6 rd rs1 immediate
+form_of (Sb rs2 rs1 offset) = StoreForm 0 rs2 rs1 offset
+form_of (Sh rs2 rs1 offset) = StoreForm 1 rs2 rs1 offset
+form_of (Sw rs2 rs1 offset) = StoreForm 2 rs2 rs1 offset
+form_of (Sd rs2 rs1 offset) = StoreForm 3 rs2 rs1 offset
+form_of (Addi rd rs1 immediate) = ImmediateForm 0x13 0 rd rs1 immediate
+form_of (Slti rd rs1 immediate) = ImmediateForm 0x13 2 rd rs1 immediate
+form_of (Sltiu rd rs1 immediate) = ImmediateForm 0x13 3 rd rs1 immediate
+form_of (Xori rd rs1 immediate) = ImmediateForm 0x13 4 rd rs1 immediate
+form_of (Ori rd rs1 immediate) = ImmediateForm 0x13 6 rd rs1 immediate
+form_of (Andi rd rs1 immediate) = ImmediateForm 0x13 7 rd rs1 immediate
+form_of (Slli rd rs1 amount) = ShiftForm 1 0 rd rs1 amount
+form_of (Srli rd rs1 amount) = ShiftForm 5 0 rd rs1 amount
+form_of (Srai rd rs1 amount) = ShiftForm 5 0x10 rd rs1 amount
+form_of (Add rd rs1 rs2) = RegisterForm 0x33 0 0 rd rs1 rs2
+form_of (Sub rd rs1 rs2) = RegisterForm 0x33 0 0x20 rd rs1 rs2
+form_of (Sll rd rs1 rs2) = RegisterForm 0x33 1 0 rd rs1 rs2
+form_of (Slt rd rs1 rs2) = RegisterForm 0x33 2 0 rd rs1 rs2
+form_of (Sltu rd rs1 rs2) = RegisterForm 0x33 3 0 rd rs1 rs2
+form_of (Xor rd rs1 rs2) = RegisterForm 0x33 4 0 rd rs1 rs2
+form_of (Srl rd rs1 rs2) = RegisterForm 0x33 5 0 rd rs1 rs2
+form_of (Sra rd rs1 rs2) = RegisterForm 0x33 5 0x20 rd rs1 rs2
+form_of (Or rd rs1 rs2) = RegisterForm 0x33 6 0 rd rs1 rs2
+form_of (And rd rs1 rs2) = RegisterForm 0x33 7 0 rd rs1 rs2
+form_of (Addiw rd rs1 immediate) = ImmediateForm 0x1B 0 rd rs1 immediate
+form_of (Slliw rd rs1 amount) = WordShiftForm 1 0 rd rs1 amount
+form_of (Srliw rd rs1 amount) = WordShiftForm 5 0 rd rs1 amount
+form_of (Sraiw rd rs1 amount) = WordShiftForm 5 0x20 rd rs1 amount
+form_of (Addw rd rs1 rs2) = RegisterForm 0x3B 0 0 rd rs1 rs2
+form_of (Subw rd rs1 rs2) = RegisterForm 0x3B 0 0x20 rd rs1 rs2
+form_of (Sllw rd rs1 rs2) = RegisterForm 0x3B 1 0 rd rs1 rs2
+form_of (Srlw rd rs1 rs2) = RegisterForm 0x3B 5 0 rd rs1 rs2
+form_of (Sraw rd rs1 rs2) = RegisterForm 0x3B 5 0x20 rd rs1 rs2
+form_of (Fence rd rs1 immediate) = ImmediateForm 0x0F 0 rd rs1 immediate
+form_of Ecall = WholeWord 0x00000073
+form_of Ebreak = WholeWord 0x00100073
+
+-- the word is one of the instruction
 abbrev pub IsWordOf : Inst → ℕ → Type 0
-IsWordOf (Lui rd upper) word = IsUpperForm word 0x37 rd upper
-IsWordOf (Auipc rd upper) word = IsUpperForm word 0x17 rd upper
-IsWordOf (Jal rd offset) word = IsJumpForm word 0x6F rd offset
-IsWordOf (Jalr rd rs1 immediate) word = IsImmediateForm word 0x67 0 rd rs1 immediate
-IsWordOf (Beq rs1 rs2 offset) word = IsBranchForm word 0x63 0 rs1 rs2 offset
-IsWordOf (Bne rs1 rs2 offset) word = IsBranchForm word 0x63 1 rs1 rs2 offset
-IsWordOf (Blt rs1 rs2 offset) word = IsBranchForm word 0x63 4 rs1 rs2 offset
-IsWordOf (Bge rs1 rs2 offset) word = IsBranchForm word 0x63 5 rs1 rs2 offset
-IsWordOf (Bltu rs1 rs2 offset) word = IsBranchForm word 0x63 6 rs1 rs2 offset
-IsWordOf (Bgeu rs1 rs2 offset) word = IsBranchForm word 0x63 7 rs1 rs2 offset
-IsWordOf (Lb rd rs1 immediate) word = IsImmediateForm word 0x03 0 rd rs1 immediate
-IsWordOf (Lh rd rs1 immediate) word = IsImmediateForm word 0x03 1 rd rs1 immediate
-IsWordOf (Lw rd rs1 immediate) word = IsImmediateForm word 0x03 2 rd rs1 immediate
-IsWordOf (Ld rd rs1 immediate) word = IsImmediateForm word 0x03 3 rd rs1 immediate
-IsWordOf (Lbu rd rs1 immediate) word = IsImmediateForm word 0x03 4 rd rs1 immediate
-IsWordOf (Lhu rd rs1 immediate) word = IsImmediateForm word 0x03 5 rd rs1 immediate
-IsWordOf (Lwu rd rs1 immediate) word = IsImmediateForm word 0x03 6 rd rs1 immediate
-IsWordOf (Sb rs2 rs1 offset) word = IsStoreForm word 0x23 0 rs2 rs1 offset
-IsWordOf (Sh rs2 rs1 offset) word = IsStoreForm word 0x23 1 rs2 rs1 offset
-IsWordOf (Sw rs2 rs1 offset) word = IsStoreForm word 0x23 2 rs2 rs1 offset
-IsWordOf (Sd rs2 rs1 offset) word = IsStoreForm word 0x23 3 rs2 rs1 offset
-IsWordOf (Addi rd rs1 immediate) word = IsImmediateForm word 0x13 0 rd rs1 immediate
-IsWordOf (Slti rd rs1 immediate) word = IsImmediateForm word 0x13 2 rd rs1 immediate
-IsWordOf (Sltiu rd rs1 immediate) word = IsImmediateForm word 0x13 3 rd rs1 immediate
-IsWordOf (Xori rd rs1 immediate) word = IsImmediateForm word 0x13 4 rd rs1 immediate
-IsWordOf (Ori rd rs1 immediate) word = IsImmediateForm word 0x13 6 rd rs1 immediate
-IsWordOf (Andi rd rs1 immediate) word = IsImmediateForm word 0x13 7 rd rs1 immediate
-IsWordOf (Slli rd rs1 amount) word = IsShiftForm word 0x13 1 0 rd rs1 amount
-IsWordOf (Srli rd rs1 amount) word = IsShiftForm word 0x13 5 0 rd rs1 amount
-IsWordOf (Srai rd rs1 amount) word = IsShiftForm word 0x13 5 0x10 rd rs1 amount
-IsWordOf (Add rd rs1 rs2) word = IsRegisterForm word 0x33 0 0 rd rs1 rs2
-IsWordOf (Sub rd rs1 rs2) word = IsRegisterForm word 0x33 0 0x20 rd rs1 rs2
-IsWordOf (Sll rd rs1 rs2) word = IsRegisterForm word 0x33 1 0 rd rs1 rs2
-IsWordOf (Slt rd rs1 rs2) word = IsRegisterForm word 0x33 2 0 rd rs1 rs2
-IsWordOf (Sltu rd rs1 rs2) word = IsRegisterForm word 0x33 3 0 rd rs1 rs2
-IsWordOf (Xor rd rs1 rs2) word = IsRegisterForm word 0x33 4 0 rd rs1 rs2
-IsWordOf (Srl rd rs1 rs2) word = IsRegisterForm word 0x33 5 0 rd rs1 rs2
-IsWordOf (Sra rd rs1 rs2) word = IsRegisterForm word 0x33 5 0x20 rd rs1 rs2
-IsWordOf (Or rd rs1 rs2) word = IsRegisterForm word 0x33 6 0 rd rs1 rs2
-IsWordOf (And rd rs1 rs2) word = IsRegisterForm word 0x33 7 0 rd rs1 rs2
-IsWordOf (Addiw rd rs1 immediate) word = IsImmediateForm word 0x1B 0 rd rs1 immediate
-IsWordOf (Slliw rd rs1 amount) word = IsRegisterForm word 0x1B 1 0 rd rs1 amount
-IsWordOf (Srliw rd rs1 amount) word = IsRegisterForm word 0x1B 5 0 rd rs1 amount
-IsWordOf (Sraiw rd rs1 amount) word = IsRegisterForm word 0x1B 5 0x20 rd rs1 amount
-IsWordOf (Addw rd rs1 rs2) word = IsRegisterForm word 0x3B 0 0 rd rs1 rs2
-IsWordOf (Subw rd rs1 rs2) word = IsRegisterForm word 0x3B 0 0x20 rd rs1 rs2
-IsWordOf (Sllw rd rs1 rs2) word = IsRegisterForm word 0x3B 1 0 rd rs1 rs2
-IsWordOf (Srlw rd rs1 rs2) word = IsRegisterForm word 0x3B 5 0 rd rs1 rs2
-IsWordOf (Sraw rd rs1 rs2) word = IsRegisterForm word 0x3B 5 0x20 rd rs1 rs2
-IsWordOf (Fence rd rs1 immediate) word = IsImmediateForm word 0x0F 0 rd rs1 immediate
-IsWordOf Ecall word = word ≡ 0x00000073
-IsWordOf Ebreak word = word ≡ 0x00100073
+IsWordOf inst word = HasForm (form_of inst) word

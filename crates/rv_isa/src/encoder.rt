@@ -68,22 +68,8 @@ pub(crate) fn fields_of(inst: Inst) -> Fields
         Inst::Srlw(rd, rs1, rs2) => register_form(0x3B, 5, 0, rd, rs1, rs2),
         Inst::Sraw(rd, rs1, rs2) => register_form(0x3B, 5, 0x20, rd, rs1, rs2),
         Inst::Fence(rd, rs1, immediate) => immediate_form(0x0F, 0, rd, rs1, immediate),
-        Inst::Ecall => Fields {
-            opcode: 0x73,
-            rd: 0,
-            funct3: 0,
-            rs1: 0,
-            rs2: 0,
-            funct7: 0,
-        },
-        Inst::Ebreak => Fields {
-            opcode: 0x73,
-            rd: 0,
-            funct3: 0,
-            rs1: 0,
-            rs2: 1,
-            funct7: 0,
-        },
+        Inst::Ecall => Fields::of_word(0x0000_0073),
+        Inst::Ebreak => Fields::of_word(0x0010_0073),
     }
 }
 

@@ -1,7 +1,7 @@
 // A word cut into its fields.
 
 /// The fields of a word, from its lowest bit up.
-#[derive(Clone, Copy, PartialEq, Eq, Debug)]
+#[derive(Clone, Copy)]
 pub struct Fields {
     pub opcode: u32,
     pub rd: u32,

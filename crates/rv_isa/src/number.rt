@@ -95,7 +95,7 @@ impl Reg {
 }
 
 /// An immediate of the forms I and S: from -2048 to 2047.
-#[derive(Clone, Copy, PartialEq, Eq, Debug)]
+#[derive(Clone, Copy)]
 pub struct Imm12 {
     value: i16,
 }
@@ -150,7 +150,7 @@ impl Imm12 {
 }
 
 /// A branch's offset: an even number from -4096 to 4094.
-#[derive(Clone, Copy, PartialEq, Eq, Debug)]
+#[derive(Clone, Copy)]
 pub struct Imm13 {
     value: i16,
 }
@@ -209,7 +209,7 @@ impl Imm13 {
 }
 
 /// A jump's offset: an even number from -1048576 to 1048574.
-#[derive(Clone, Copy, PartialEq, Eq, Debug)]
+#[derive(Clone, Copy)]
 pub struct Imm21 {
     value: i32,
 }
@@ -268,7 +268,7 @@ impl Imm21 {
 }
 
 /// The upper 20 bits of a number of 32 bits, as a number from 0 to 1048575.
-#[derive(Clone, Copy, PartialEq, Eq, Debug)]
+#[derive(Clone, Copy)]
 pub struct Upper {
     number: u32,
 }
@@ -320,7 +320,7 @@ impl Upper {
 }
 
 /// The amount of a shift of 64 bits: from 0 to 63.
-#[derive(Clone, Copy, PartialEq, Eq, Debug)]
+#[derive(Clone, Copy)]
 pub struct Shift6 {
     number: u8,
 }
@@ -374,7 +374,7 @@ impl Shift6 {
 }
 
 /// The amount of a shift of 32 bits: from 0 to 31.
-#[derive(Clone, Copy, PartialEq, Eq, Debug)]
+#[derive(Clone, Copy)]
 pub struct Shift5 {
     number: u8,
 }

@@ -5,4 +5,5 @@ mod Conditions
 mod Wrongs
 mod Standing
 mod Steps
+mod Acts
 pub mod Public

@@ -1,10 +1,9 @@
--- What a code with marks comes to, item by item: one lemma a kind of item, each over what the run comes to from there.
-use Rattle.std.proofs.Common.{ℕ, suc, ◌+◌, ◌-◌, ◌%◌, ◌^◌, ◌<◌, ◌≤◌, ◌≡◌, Bool, true, false, List, ◌∷◌}
+-- What the step of each kind of item of a code with marks comes to.
+use Rattle.std.proofs.Common.{ℕ, suc, ◌+◌, ◌-◌, ◌%◌, ◌^◌, ◌<◌, ◌≡◌, Bool, true, false, List, ◌∷◌}
 use Rattle.std.proofs.Common.{Some, refl, ◌∙◌, ap, arith}
 use Rattle.std.specs.Prelude.{◌==◌, if◌then◌else◌, pos}
 use Rattle.grift_base.specs.World.{WorldState}
-use Rattle.run_laws.specs.Machines.{Go, Stop, Machine, Reaches}
-use Rattle.run_laws.proofs.Public.{by_step}
+use Rattle.run_laws.specs.Machines.{Go, Stop, Machine}
 use Rattle.rv_isa.specs.declared.inst.Inst.{Inst}
 use Rattle.rv_isa.specs.declared.inst.Inst.TheVariants.{Jalr, Ecall}
 use Rattle.machine_words.specs.declared.conditions.Cond.{Cond}
@@ -147,116 +146,3 @@ module _ {V : Type 0} (program : Program V) where
 
       lands : ℕ → ℕ → ℕ → Turn
       lands rd word pc = lands_at rd ((word + 0) % 2 ^ 64 - (word + 0) % 2 ^ 64 % 2) pc
-
-  module _ (P Q : State → Type 0) where
-    -- within so many steps the run comes to where Q holds, or is exhausted before; P holds at each state that it leaves
-    pub record Comes (most : ℕ) (s : State) : Type 0 where
-      pub steps : ℕ
-      pub few : steps ≤ most
-      pub reaches : Reaches running P Q steps s
-
-    -- the run comes there by one step at least
-    pub record ComesOn (most : ℕ) (s : State) : Type 0 where
-      pub later : ℕ
-      pub few : suc later ≤ most
-      pub reaches : Reaches running P Q (suc later) s
-
-    pub comes_there : {most : ℕ} {s : State} → ComesOn most s → Comes most s
-    comes_there on = record { steps = suc on.later; few = on.few; reaches = on.reaches }
-
-    -- a run that is there comes there by no step
-    pub is_there : {s : State} → Q s → Comes 0 s
-    is_there q = record { steps = 0; few = omega arith; reaches = q }
-
-    -- a bound may be larger
-    pub comes_later : {n : ℕ} {s : State} (m : ℕ) → n ≤ m → Comes n s → Comes m s
-    comes_later m h c = let a = c.few in record { steps = c.steps; few = omega arith; reaches = c.reaches }
-
-    pub comes_on_later : {n : ℕ} {s : State} (m : ℕ) → n ≤ m → ComesOn n s → ComesOn m s
-    comes_on_later m h c = let a = c.few in record { later = c.later; few = omega arith; reaches = c.reaches }
-
-    -- the run goes on by one step that is known
-    pub goes : {most : ℕ} {s : State} (t : State) → running.step s ≡ Go t → P s → Comes most t → ComesOn (suc most) s
-    goes {most} {s} t e p c =
-        let a = c.few in
-        record {
-          later = c.steps;
-          few = omega arith;
-          reaches = by_step running P Q c.steps s (Go t) e p c.reaches;
-        }
-
-    -- an instruction that changes registers and memory and goes on
-    pub op : {most : ℕ} {s : State} {i : Inst} {xs : List RealItem} (regs : Registers) (memory : Memory) →
-        At program s (Op i ∷ xs) → HasItem xs →
-        ((ecall ebreak : State → Turn) (pc : ℕ) → act_with ecall ebreak i (record s { pc = pc })
-        ≡ Next (record s { regs = regs; memory = memory; pc = add pc 4 })) →
-        P s →
-        ((pc : ℕ) → At program (record s { regs = regs; memory = memory; pc = pc }) xs →
-        Comes most (record s { regs = regs; memory = memory; pc = pc })) →
-        ComesOn (suc most) s
-    op {s = s} regs memory at h act p go =
-        let next = next_at program at h in
-        let t : State = record s { regs = regs; memory = memory; pc = next.pc } in
-        goes t (op_step_is regs memory at h act) p (go next.pc (next.at t refl))
-
-    -- an ECALL that goes on
-    pub call : {most : ℕ} {s : State} {xs : List RealItem} (regs : Registers) (world : WorldState)
-        (at : At program s (Op Ecall ∷ xs)) → HasItem xs →
-        ((pc : ℕ) → program.setting.ecall at.place (record s { pc = pc })
-        ≡ Next (record s { regs = regs; world = world; pc = add pc 4 })) →
-        P s →
-        ((pc : ℕ) → At program (record s { regs = regs; world = world; pc = pc }) xs →
-        Comes most (record s { regs = regs; world = world; pc = pc })) →
-        ComesOn (suc most) s
-    call {s = s} regs world at h act p go =
-        let next = next_at program at h in
-        let t : State = record s { regs = regs; world = world; pc = next.pc } in
-        goes t (call_step_is regs world at h act) p (go next.pc (next.at t refl))
-
-    -- a jump to a mark, which keeps the next item's address
-    pub jump : {most : ℕ} {s : State} {rd mark : ℕ} {xs : List RealItem} (target : ℕ) →
-        At program s (Jump rd mark ∷ xs) → HasItem xs →
-        mark_address program.setting.address program.code mark ≡ Some target → P s →
-        ((pc : ℕ) → ((t : State) → t.pc ≡ pc → At program t xs) →
-        Comes most (record s { regs = set_reg rd pc s.regs; pc = target })) →
-        ComesOn (suc most) s
-    jump target at h there p go =
-        let next = next_at program at h in goes _ (jump_step_is target at h there) p (go next.pc next.at)
-
-    -- a branch that isn't taken, and one that is
-    pub falls_through : {most : ℕ} {s : State} {cond : Cond} {a b mark : ℕ} {xs : List RealItem} →
-        At program s (Branch cond a b mark ∷ xs) → HasItem xs → holds cond (reg s a) (reg s b) ≡ false → P s →
-        ((pc : ℕ) → At program (record s { pc = pc }) xs → Comes most (record s { pc = pc })) → ComesOn (suc most) s
-    falls_through {s = s} at h test p go =
-        let next = next_at program at h in
-        let t : State = record s { pc = next.pc } in
-        goes t (fall_step_is at h test) p (go next.pc (next.at t refl))
-
-    pub is_taken : {most : ℕ} {s : State} {cond : Cond} {a b mark : ℕ} {xs : List RealItem} (target : ℕ) →
-        At program s (Branch cond a b mark ∷ xs) → holds cond (reg s a) (reg s b) ≡ true →
-        mark_address program.setting.address program.code mark ≡ Some target → P s →
-        Comes most (record s { pc = target }) → ComesOn (suc most) s
-    is_taken target at test there p go = goes _ (branch_step_is target at test there) p go
-
-    -- the address of a mark is put into a register
-    pub puts_address : {most : ℕ} {s : State} {rd mark : ℕ} {xs : List RealItem} (target : ℕ) →
-        At program s (Address rd mark ∷ xs) → HasItem xs →
-        mark_address program.setting.address program.code mark ≡ Some target → P s →
-        ((pc : ℕ) → At program (record s { regs = set_reg rd target s.regs; pc = pc }) xs →
-        Comes most (record s { regs = set_reg rd target s.regs; pc = pc })) →
-        ComesOn (suc most) s
-    puts_address {s = s} {rd = rd} target at h there p go =
-        let next = next_at program at h in
-        let t : State = record s { regs = set_reg rd target s.regs; pc = next.pc } in
-        goes t (address_step_is target at h there) p (go next.pc (next.at t refl))
-
-    -- a jump to the address in a register, which keeps the next item's address
-    pub jumps_to : {most : ℕ} {s : State} {rd a : ℕ} {xs : List RealItem} (target : ℕ) →
-        At program s (Op (Jalr rd a (pos 0)) ∷ xs) → HasItem xs → reg s a ≡ target → target < 2 ^ 64 →
-        target % 4 ≡ 0 → P s →
-        ((pc : ℕ) → ((t : State) → t.pc ≡ pc → At program t xs) →
-        Comes most (record s { regs = set_reg rd pc s.regs; pc = target })) →
-        ComesOn (suc most) s
-    jumps_to target at h is_target small aligned p go =
-        let next = next_at program at h in
-        goes _ (register_jump_step_is target at h is_target small aligned) p (go next.pc next.at)

@@ -12,7 +12,7 @@ use Rattle.low_ir.specs.declared.code.WordOp.TheVariants.{Add, Sub, Sll, Srl}
 use Rattle.low_ir.specs.Steps.{may_store, store_words}
 use Rattle.low_ir.specs.declared.code.LowSource.{LowSource}
 use Rattle.low_ir.specs.Procedures.{Code, Build, Request, Take}
-use Rattle.low_ir.specs.Run.{LowState, word_of, words_of, and_more, with_local, sets, code_step, finds_no_room}
+use Rattle.low_ir.specs.Run.{LowState, word_of, words_of, and_more, with_local, sets, finds_no_room}
 use Rattle.rv_select.specs.declared.convention.TheConstants.{FIRST_SCRATCH, SECOND_SCRATCH, THIRD_SCRATCH}
 use Rattle.rv_select.specs.declared.convention.TheConstants.{FIRST_ARGUMENT, SECOND_ARGUMENT, CALL_NUMBER, STACK_END}
 use Rattle.rv_select.specs.declared.convention.TheConstants.{ALLOCATION, REGION_END}
@@ -24,13 +24,15 @@ use Rattle.rv_select.specs.Run.{Found, VirtualState, value, store, branch, item_
 use Rattle.rv_select.specs.Select.{source_reg, source_items, stores_items, out_items}
 use Rattle.rv_select.specs.Prices.{item_price}
 use Rattle.rv_select.proofs.Pricing.{own_slot, few_bytes, source_paid, stores_paid, prices_append}
+use Rattle.rv_select.proofs.Fetching.{first_is_scratch, third_is_scratch}
 use Rattle.rv_select.proofs.Fetching.{kept_value, kept_fixed, wrote_kept, source_apart, fetches, fetches_ge, fetch}
 use Rattle.rv_select.proofs.Handing.{words_length}
 use Rattle.rv_select.proofs.Stretches.{wrote_real, wrote_local, stands_past, does_item, move_local, given_is, only_is}
 use Rattle.rv_select.proofs.Stretches.{beyond, beyond_append, SameFixed, fixed_self, also_fixed, PaidWay, prices}
 use Rattle.rv_select.proofs.Relation.{Program, On, setting, owed, Way, At, way_first, past, Body, body_regs, all_owed}
 use Rattle.rv_select.proofs.Relation.{Homed, Here, way_second, as_alike, seen, end_is_owed, SeenAs, way_seen}
-use Rattle.rv_select.proofs.Stepping.{LiesOn, Sim, purse_of, items_of, sim_given, sim_if, popped, ItemsOn}
+use Rattle.rv_select.proofs.Stepping.{DoesStep}
+use Rattle.rv_select.proofs.Stepping.{Sim, purse_of, items_of, sim_given, sim_if, popped, ItemsOn}
 use Rattle.rv_select.proofs.Stepping.{active_same, Ends, stops_here, region_call, cost_here, mine, active_set, unless}
 
 -- the sums by which words are asked for and taken
@@ -53,8 +55,7 @@ module _ {V : Type 0} (program : Program V) where
   -- ---- the allocation word
 
   pub do_take : (s : LowState) (t : VirtualState) (on : On program s t) (a : LowSource) (rest : Code)
-      → LiesOn program s t on t.pc (Take a rest) → Sim program (purse_of program s (Take a rest)) s t
-      (code_step program.reading program.low (Take a rest) s)
+      → DoesStep program s t on (Take a rest)
   do_take s t on a rest lies =
       let purse : ℕ = purse_of program s (Take a rest) in
       let f : Found = t.active.found in
@@ -75,12 +76,9 @@ module _ {V : Type 0} (program : Program V) where
         inl (let z = fetches_ge a 2 in omega (arith, z)),
         prices (setting program) f (source_items THIRD_SCRATCH a) left,
         (let p = source_paid (setting program) f THIRD_SCRATCH a left in omega (arith, p)),
-        fetch program.reading (setting program) (Way program s s1) (At program s1) s.active.locals THIRD_SCRATCH (
-          refl,
-          refl,
-          refl,
-          refl,
-        ) a n t tail 2 left ae on.active.locals lies.stands (way_first program s s1 t on.body) (λ regs known kept va.
+        fetch program.reading (setting program) (Way program s s1) (At program s1) s.active.locals THIRD_SCRATCH
+            third_is_scratch a n t tail 2 left ae on.active.locals lies.stands (way_first program s s1 t on.body)
+            (λ regs known kept va.
             let u : VirtualState = record t { regs = regs; known = known; pc = pc } in
             let here : ItemsOn program s t on pc tail =
             past program t.active.found on.active.out t.pc (source_items THIRD_SCRATCH a) tail s.active.rests lies in
@@ -156,9 +154,7 @@ module _ {V : Type 0} (program : Program V) where
         ))))
 
   pub do_request : (s : LowState) (t : VirtualState) (on : On program s t) (d : ℕ) (a : LowSource) (rest : Code)
-      → LiesOn program s t on t.pc (Request d a rest)
-      → Sim program (purse_of program s (Request d a rest)) s t (code_step program.reading program.low
-      (Request d a rest) s)
+      → DoesStep program s t on (Request d a rest)
   do_request s t on d a rest lies =
       sim_given program purse s s t (word_of s.active.locals a) _ (λ n e. by_room n e
       (nat_le (s.alloc + 8 * n) program.low.top) refl)
@@ -169,14 +165,11 @@ module _ {V : Type 0} (program : Program V) where
       f : Found
       f = t.active.found
 
-      first : ℕ
-      first = f.first
-
       test : VirtualItem
-      test = Branch Ltu (Real FIRST_SCRATCH) (source_reg first THIRD_SCRATCH a) on.active.out
+      test = Branch Ltu (Real FIRST_SCRATCH) (source_reg f.first THIRD_SCRATCH a) on.active.out
 
       put : VirtualItem
-      put = Move (Virtual (first + d)) (Real ALLOCATION)
+      put = Move (Virtual (f.first + d)) (Real ALLOCATION)
 
       pc : ℕ
       pc = beyond (source_items THIRD_SCRATCH a) t.pc
@@ -184,8 +177,8 @@ module _ {V : Type 0} (program : Program V) where
       tail : List VirtualItem
       tail = Compute Sub (Real FIRST_SCRATCH) (Real REGION_END) (Real ALLOCATION)
           ∷ ComputeWith Srl (Real FIRST_SCRATCH) (Real FIRST_SCRATCH) 3
-          ∷ Branch Ltu (Real FIRST_SCRATCH) (source_reg first THIRD_SCRATCH a) on.active.out
-          ∷ Move (Virtual (first + d)) (Real ALLOCATION)
+          ∷ Branch Ltu (Real FIRST_SCRATCH) (source_reg f.first THIRD_SCRATCH a) on.active.out
+          ∷ Move (Virtual (f.first + d)) (Real ALLOCATION)
           ∷ items_of program s t on rest
 
       here : ItemsOn program s t on pc tail
@@ -210,23 +203,20 @@ module _ {V : Type 0} (program : Program V) where
       -- the source, three items, then what the branch comes to
       tested : (n : ℕ) → word_of s.active.locals a ≡ Some n → (s1 : LowState) (Q : ℕ → VirtualState → Type 0)
           (k left : ℕ) → ((regs : Registers) (known : ℕ → Bool) → SameFixed regs t.regs
-          → value (u3 regs known) (source_reg first THIRD_SCRATCH a) ≡ Some n
+          → value (u3 regs known) (source_reg f.first THIRD_SCRATCH a) ≡ Some n
           → PaidWay program.reading (setting program) (Way program s s1) Q k left (u3 regs known))
           → PaidWay program.reading (setting program) (Way program s s1) Q (fetches a (suc (suc k)))
           (prices (setting program) f (source_items THIRD_SCRATCH a) (1 + (1 + left))) t
       tested n e s1 Q k left r =
-          fetch program.reading (setting program) (Way program s s1) Q s.active.locals THIRD_SCRATCH (
-            refl,
-            refl,
-            refl,
-            refl,
-          ) a n t tail (suc (suc k)) (1 + (1 + left)) e on.active.locals lies.stands (way_first program s s1 t on.body)
+          fetch program.reading (setting program) (Way program s s1) Q s.active.locals THIRD_SCRATCH
+          third_is_scratch a n t tail (suc (suc k)) (1 + (1 + left)) e on.active.locals lies.stands
+          (way_first program s s1 t on.body)
           (λ regs known kept va.
           let body : Body program s (u0 regs known) = body_regs program s t regs known pc on.body
           (kept_fixed kept refl refl refl) in
-          let v1 : value (u1 regs known) (source_reg first THIRD_SCRATCH a) ≡ Some n =
-          wrote_kept (u0 regs known) FIRST_SCRATCH (free regs) (source_reg first THIRD_SCRATCH a) n
-          (source_apart first THIRD_SCRATCH FIRST_SCRATCH a refl refl)
+          let v1 : value (u1 regs known) (source_reg f.first THIRD_SCRATCH a) ≡ Some n =
+          wrote_kept (u0 regs known) FIRST_SCRATCH (free regs) (source_reg f.first THIRD_SCRATCH a) n
+          (source_apart f.first THIRD_SCRATCH FIRST_SCRATCH a refl refl)
           va in
           does_item program.reading (setting program) (Way program s s1) Q (suc k)
           (1 + left) (u0 regs known) (u1 regs known)
@@ -236,10 +226,10 @@ module _ {V : Type 0} (program : Program V) where
           (ComputeWith Srl (Real FIRST_SCRATCH) (Real FIRST_SCRATCH) 3) here.stands.1.0 refl
           (way_first program s s1 (u1 regs known) body) (
           r regs known (kept_fixed kept refl refl refl) (wrote_kept (u1 regs known) FIRST_SCRATCH (free regs / 8)
-          (source_reg first THIRD_SCRATCH a) n (source_apart first THIRD_SCRATCH FIRST_SCRATCH a refl refl) v1))))
+          (source_reg f.first THIRD_SCRATCH a) n (source_apart f.first THIRD_SCRATCH FIRST_SCRATCH a refl refl) v1))))
 
       branched : (regs : Registers) (known : ℕ → Bool) (n : ℕ)
-          → value (u3 regs known) (source_reg first THIRD_SCRATCH a) ≡ Some n
+          → value (u3 regs known) (source_reg f.first THIRD_SCRATCH a) ≡ Some n
           → (b : Bool) → nat_lt (free regs / 8) n ≡ b
           → item_step program.reading (setting program) test (u3 regs known)
           ≡ branch program.reading (setting program) b on.active.out (u3 regs known)
@@ -259,11 +249,11 @@ module _ {V : Type 0} (program : Program V) where
             inl (let z = fetches_ge a 4 in omega (arith, z)),
             prices (setting program) f (source_items THIRD_SCRATCH a) (1 + (1 + left)),
             (let p = source_paid (setting program) f THIRD_SCRATCH a (1 + (1 + left)) in
-                let q = own_slot first d in omega (arith, p, q)),
+                let q = own_slot f.first d in omega (arith, p, q)),
             tested n e s1 (At program s1) 2 left (λ regs known same va.
                 let t3 : VirtualState = u3 regs known in
                 let t4 : VirtualState = record t3 { pc = suc t3.pc } in
-                let t5 : VirtualState = wrote_local (first + d) s.alloc t4 in
+                let t5 : VirtualState = wrote_local (f.first + d) s.alloc t4 in
                 let body : Body program s t3 = body_regs program s t t3.regs t3.known t3.pc on.body
                 (record { stack = same.stack; alloc = same.alloc; top = same.top }) in
                 let lt : nat_lt (free regs / 8) n ≡ false = ap (λ x. nat_lt (x / 8) n) (free_is regs same)
@@ -273,16 +263,12 @@ module _ {V : Type 0} (program : Program V) where
                 here.stands.1.1.0 (branched regs known n va false lt) (way_first program s s1 t3 body) (
                 does_item program.reading (setting program) (Way program s s1) (At program s1) 0
                 (owed s.waiting) t4 t5 put here.stands.1.1.1.0
-                (move_local program.reading (setting program) t4 (first + d) (Real ALLOCATION) s.alloc
+                (move_local program.reading (setting program) t4 (f.first + d) (Real ALLOCATION) s.alloc
                 (ap Some body.1) (mine program s t on d m))
                 (way_first program s s1 t4 body) (
                   record {
-                    active = active_set program s t on rest d s.alloc t5.pc (record {
-                      stands = here.stands.1.1.1.1;
-                      finds =
-                          here.finds.1.1.1.1;
-                      leads = here.leads;
-                    });
+                    active = active_set program s t on rest d s.alloc t5.pc
+                        (assumption (here.stands.1.1.1.1, here.finds.1.1.1.1, here.leads));
                     behind = on.behind;
                     body = body;
                   },
@@ -383,7 +369,7 @@ module _ {V : Type 0} (program : Program V) where
         (suc (stores_more args k))) n u)
         (sym (prices_append (setting program) u.active.found (source_items FIRST_SCRATCH a) (item ∷ later) left)) (
         fetch program.reading (setting program) (Way program s s1) Q s.active.locals FIRST_SCRATCH
-        (refl, refl, refl, refl) a w u (item
+        first_is_scratch a w u (item
         ∷ (later ++ rest)) (suc
         (stores_more args k)) (item_price (setting program) u.active.found item + after) both.0 f split
         (way_seen program s s1 u sn) (λ regs known kept va.
@@ -434,9 +420,7 @@ module _ {V : Type 0} (program : Program V) where
   moved_bytes alloc n top h k = grind arith
 
   pub do_build : (s : LowState) (t : VirtualState) (on : On program s t) (d : ℕ) (args : List LowSource) (rest : Code)
-      → LiesOn program s t on t.pc (Build d args rest)
-      → Sim program (purse_of program s (Build d args rest)) s t (code_step program.reading program.low
-      (Build d args rest) s)
+      → DoesStep program s t on (Build d args rest)
   do_build s t on d args rest lies =
       sim_given program purse s s t (words_of s.active.locals args) _ (λ ws e.
       sim_if program purse s (popped program s rest) t (nat_lt (length ws) 256) _
@@ -448,9 +432,6 @@ module _ {V : Type 0} (program : Program V) where
       f : Found
       f = t.active.found
 
-      first : ℕ
-      first = f.first
-
       size_item : VirtualItem
       size_item = Constant (Real SECOND_SCRATCH) (8 * length args)
 
@@ -458,7 +439,7 @@ module _ {V : Type 0} (program : Program V) where
       test = Branch Ltu (Real FIRST_SCRATCH) (Real SECOND_SCRATCH) on.active.out
 
       put : VirtualItem
-      put = Move (Virtual (first + d)) (Real ALLOCATION)
+      put = Move (Virtual (f.first + d)) (Real ALLOCATION)
 
       -- the size of so few words is a small number
       size_paid : (ws : List ℕ) → words_of s.active.locals args ≡ Some ws → nat_lt (length ws) 256 ≡ true
@@ -485,19 +466,19 @@ module _ {V : Type 0} (program : Program V) where
       t2 = wrote_real SECOND_SCRATCH bytes t1
 
       tail : List VirtualItem
-      tail = Move (Virtual (first + d)) (Real ALLOCATION)
+      tail = Move (Virtual (f.first + d)) (Real ALLOCATION)
           ∷ Compute Add (Real ALLOCATION) (Real ALLOCATION) (Real SECOND_SCRATCH)
           ∷ items_of program s t on rest
 
-      after : ItemsOn program s t on (suc (suc (suc t.pc))) (stores_items first 0 args ++ tail)
+      after : ItemsOn program s t on (suc (suc (suc t.pc))) (stores_items f.first 0 args ++ tail)
       after = record { stands = lies.stands.1.1.1; finds = lies.finds.1.1.1; leads = lies.leads }
 
       end_place : ℕ
-      end_place = beyond (stores_items first 0 args) (suc (suc (suc t.pc)))
+      end_place = beyond (stores_items f.first 0 args) (suc (suc (suc t.pc)))
 
       there : ItemsOn program s t on end_place tail
       there = past program t.active.found on.active.out
-          (suc (suc (suc t.pc))) (stores_items first 0 args) tail s.active.rests
+          (suc (suc (suc t.pc))) (stores_items f.first 0 args) tail s.active.rests
           after
 
       tested : (s1 : LowState) (Q : ℕ → VirtualState → Type 0) (k left : ℕ)
@@ -545,13 +526,13 @@ module _ {V : Type 0} (program : Program V) where
           ∙ (ap (λ n. nat_lt ((program.low.top + (2 ^ 64 - s.alloc)) % 2 ^ 64) (8 * n % 2 ^ 64)) (sym many)
           ∙ fits_bytes s.alloc (length ws) program.low.top h on.body.5 program.small) in
           let left : ℕ = item_price (setting program) f put + (1 + owed s.waiting) in
-          let later : ℕ = prices (setting program) f (stores_items first 0 args) left in (
+          let later : ℕ = prices (setting program) f (stores_items f.first 0 args) left in (
             suc (suc (suc (stores_more args 2))),
             inl (omega arith),
             1 + (item_price (setting program) f size_item + (11 + later)),
             (let p = stores_paid (setting program) f args 0 left in
                 let q = size_paid ws e few in
-                let i = own_slot first d in omega (arith, p, q, i)),
+                let i = own_slot f.first d in omega (arith, p, q, i)),
             tested s1 (At program s1) (suc (stores_more args 2)) (11 + later) (
                 does_item program.reading (setting program) (Way program s s1) (At program s1)
                 (stores_more args 2) later t2 t3 test lies.stands.1.1.0
@@ -569,7 +550,7 @@ module _ {V : Type 0} (program : Program V) where
                 } in
                 let here : ItemsOn program s t on pc tail = subst
                 (λ q. ItemsOn program s t on q tail) (sym place) there in
-                let u1 : VirtualState = wrote_local (first + d) s.alloc u in
+                let u1 : VirtualState = wrote_local (f.first + d) s.alloc u in
                 let u2 : VirtualState = wrote_real ALLOCATION ((regs ALLOCATION + bytes) % 2 ^ 64) u1 in
                 let sum : (regs ALLOCATION + bytes) % 2 ^ 64 ≡ s.alloc + 8 * length ws =
                 ap (λ x. (x + bytes) % 2 ^ 64) (same.alloc ∙ on.body.1)
@@ -577,7 +558,7 @@ module _ {V : Type 0} (program : Program V) where
                 ∙ moved_bytes s.alloc (length ws) program.low.top h program.small) in
                 does_item program.reading (setting program) (Way program s s1) (At program s1) 1
                 (1 + owed s.waiting) u u1 put here.stands.0
-                (move_local program.reading (setting program) u (first + d) (Real ALLOCATION) s.alloc
+                (move_local program.reading (setting program) u (f.first + d) (Real ALLOCATION) s.alloc
                 (ap Some (same.alloc
                 ∙ on.body.1))
                 (mine program s t on d m)) (way_seen program s s1 u sn) (
@@ -586,12 +567,8 @@ module _ {V : Type 0} (program : Program V) where
                 (given_is u1 _ bytes _ v6)
                 (way_seen program s s1 u1 sn) (
                   record {
-                    active = active_set program s t on rest d s.alloc u2.pc (record {
-                      stands = here.stands.1.1;
-                      finds =
-                          here.finds.1.1;
-                      leads = here.leads;
-                    });
+                    active = active_set program s t on rest d s.alloc u2.pc
+                        (assumption (here.stands.1.1, here.finds.1.1, here.leads));
                     behind = on.behind;
                     body = (
                       ap (λ (mem : Memory). store_words ws s.alloc mem) on.body.0,

@@ -18,16 +18,15 @@ use Rattle.rv_select.proofs.Fetching.{fetches, fetches_ge, fetch_both}
 use Rattle.rv_select.proofs.Stretches.{stands_front, does_item, given_is, beyond, PaidWay, prices}
 use Rattle.rv_select.proofs.Relation.{Program, On, past, next, Joins, Leads, Lies, setting, finds_front, owed, Way}
 use Rattle.rv_select.proofs.Relation.{At, way_regs, body_regs, all_owed, way_first}
-use Rattle.rv_select.proofs.Stepping.{LiesOn, Sim, purse_of, sim_given, ItemsOn}
+use Rattle.rv_select.proofs.Stepping.{DoesStep}
+use Rattle.rv_select.proofs.Stepping.{Sim, purse_of, sim_given, ItemsOn}
 use Rattle.rv_select.proofs.Straight.{some_steps, both_paid}
 
 module _ {V : Type 0} (program : Program V) where
   -- what an item that goes to a mark, or on, leads to
   pub do_if : (s : LowState) (t : VirtualState) (on : On program s t) (cond : Cond)
       (a b : LowSource) (one other rest : Code)
-      → LiesOn program s t on t.pc (If cond a b one other rest)
-      → Sim program (purse_of program s (If cond a b one other rest)) s t (code_step program.reading program.low
-      (If cond a b one other rest) s)
+      → DoesStep program s t on (If cond a b one other rest)
   do_if s t on cond a b one other rest lies =
       sim_given program purse s s t (word_of s.active.locals a) _ (λ x xe. sim_given program purse s s t
       (word_of s.active.locals b) _

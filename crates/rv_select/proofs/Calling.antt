@@ -7,7 +7,7 @@ use Rattle.rv_machine.specs.Registers.{Registers}
 use Rattle.low_ir.specs.Steps.{no_locals}
 use Rattle.low_ir.specs.declared.code.LowSource.{LowSource}
 use Rattle.low_ir.specs.Procedures.{Code, CodeOf as LowCodeOf, Call as LowCall, CallAt as LowCallAt, Proc}
-use Rattle.low_ir.specs.Run.{LowState, word_of, words_of, bind, proc_from, waits, code_step, held_by as words_held}
+use Rattle.low_ir.specs.Run.{LowState, word_of, words_of, bind, proc_from, waits, held_by as words_held}
 use Rattle.low_ir.specs.Prices.{slot_price, sources_price, entering, entering_some}
 use Rattle.rv_select.specs.declared.convention.TheConstants.{ZERO, THIRD_SCRATCH, FIRST_ARGUMENT, ANSWER}
 use Rattle.rv_select.specs.declared.code.VReg.{VReg}
@@ -18,6 +18,7 @@ use Rattle.rv_select.specs.Run.{Found, Frame, VirtualState, held_by, only_args, 
 use Rattle.rv_select.specs.Select.{source_reg, source_items, args_items, params_items, code_items}
 use Rattle.rv_select.specs.Prices.{entering_found, item_price}
 use Rattle.rv_select.proofs.Pricing.{own_slot, source_paid, args_paid, params_paid}
+use Rattle.rv_select.proofs.Fetching.{third_is_scratch}
 use Rattle.rv_select.proofs.Fetching.{NotIn, kept_value, kept_fixed, wrote_kept, source_apart, fetches, fetches_ge}
 use Rattle.rv_select.proofs.Fetching.{fetch}
 use Rattle.rv_select.proofs.Handing.{args_known, known_args, words_length, args_regs, HasArgs, args_fixed, has_args}
@@ -26,7 +27,8 @@ use Rattle.rv_select.proofs.Stretches.{wrote_real, stands_past, does_item, write
 use Rattle.rv_select.proofs.Stretches.{SameFixed, fixed_self, PaidWay, prices}
 use Rattle.rv_select.proofs.Relation.{Program, Entered, Behind, Body, setting, Way, At, owed, way_second, past}
 use Rattle.rv_select.proofs.Relation.{all_owed, Here, way_regs, body_regs, On, ActiveOn, next, Laid, way_first}
-use Rattle.rv_select.proofs.Stepping.{ItemsOn, items_of, popped, LiesOn, Sim, purse_of, sim_given, sim_if, item_sets}
+use Rattle.rv_select.proofs.Stepping.{DoesStep}
+use Rattle.rv_select.proofs.Stepping.{ItemsOn, items_of, popped, purse_of, sim_given, sim_if, item_sets}
 use Rattle.rv_select.proofs.Stepping.{mine}
 
 module _ {V : Type 0} (program : Program V) where
@@ -252,9 +254,7 @@ module _ {V : Type 0} (program : Program V) where
       ) entered_body on.active.homed.count many eight le)
 
   pub do_code_of : Laid program → (s : LowState) (t : VirtualState) (on : On program s t) (d k : ℕ) (rest : Code)
-      → LiesOn program s t on t.pc (LowCodeOf d k rest)
-      → Sim program (purse_of program s (LowCodeOf d k rest)) s t (code_step program.reading program.low
-      (LowCodeOf d k rest) s)
+      → DoesStep program s t on (LowCodeOf d k rest)
   do_code_of laid s t on d k rest lies =
       let f : Found = t.active.found in
       let purse : ℕ = purse_of program s (LowCodeOf d k rest) in
@@ -281,9 +281,7 @@ module _ {V : Type 0} (program : Program V) where
 
   pub do_call : Laid program → (s : LowState) (t : VirtualState) (on : On program s t)
       (d k : ℕ) (args : List LowSource) (rest : Code)
-      → LiesOn program s t on t.pc (LowCall d k args rest)
-      → Sim program (purse_of program s (LowCall d k args rest)) s t (code_step program.reading program.low
-      (LowCall d k args rest) s)
+      → DoesStep program s t on (LowCall d k args rest)
   do_call laid s t on d k args rest lies =
       let from : Found = t.active.found in
       let purse : ℕ = purse_of program s (LowCall d k args rest) in
@@ -329,9 +327,7 @@ module _ {V : Type 0} (program : Program V) where
 
   pub do_call_at : Laid program → (s : LowState) (t : VirtualState) (on : On program s t)
       (d : ℕ) (a : LowSource) (args : List LowSource)
-      (rest : Code) → LiesOn program s t on t.pc (LowCallAt d a args rest)
-      → Sim program (purse_of program s (LowCallAt d a args rest)) s t (code_step program.reading program.low
-      (LowCallAt d a args rest) s)
+      (rest : Code) → DoesStep program s t on (LowCallAt d a args rest)
   do_call_at laid s t on d a args rest lies =
       let from : Found = t.active.found in
       let purse : ℕ = purse_of program s (LowCallAt d a args rest) in
@@ -359,12 +355,8 @@ module _ {V : Type 0} (program : Program V) where
         prices (setting program) from (source_items THIRD_SCRATCH a) later,
         (let i = source_paid (setting program) from THIRD_SCRATCH a later in
             let j = enters_paid from l.0 args ws item p.params left many f3.0 f3.1 in omega (arith, i, j)),
-        fetch program.reading (setting program) (Way program s s1) (At program s1) s.active.locals THIRD_SCRATCH (
-          refl,
-          refl,
-          refl,
-          refl,
-        ) a at t tail total later ae on.active.locals lies.stands (way_first program s s1 t on.body)
+        fetch program.reading (setting program) (Way program s s1) (At program s1) s.active.locals THIRD_SCRATCH
+            third_is_scratch a at t tail total later ae on.active.locals lies.stands (way_first program s s1 t on.body)
             (λ regs known kept va.
             call_from s t on d args ws rest p l.0 item regs known pc (kept_fixed kept refl refl refl) l.2 e
             (past program t.active.found on.active.out t.pc (source_items THIRD_SCRATCH a) tail s.active.rests lies)

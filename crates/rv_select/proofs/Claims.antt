@@ -35,40 +35,34 @@ use Rattle.rv_select.proofs.Closedness.{closed_small}
 use Rattle.rv_select.proofs.Standing.{select_well}
 use Rattle.rv_select.proofs.Walking.{walk}
 use Rattle.rv_select.proofs.Goods.{program_sets, at_start, selected_holding}
-use Rattle.rv_select.proofs.Laying.{IsBody, AreBody, body_is_body}
+use Rattle.rv_select.proofs.Marks.{Each, each_append}
+use Rattle.rv_select.proofs.Laying.{IsBody, AreBody, body_is_body, source_each, put_each, args_each, params_each}
 use Rattle.rv_select.proofs.Following.{follows_select, costs_select}
 use Rattle.rv_select.proofs.InWordStack.{follows_in_stack, costs_in_stack}
 
 -- ---- numbers fit
 
+abbrev IsFit : VirtualItem → Type 0
+IsFit item = fits item ≡ true
+
 abbrev AllFit : List VirtualItem → Type 0
-AllFit [] = Unit {0}
-AllFit (x ∷ xs) = (fits x ≡ true) × AllFit xs
+AllFit xs = Each IsFit xs
 
 all_fit : (xs : List VirtualItem) → AllFit xs → each_fits xs ≡ true
 all_fit [] h = refl
 all_fit (x ∷ xs) h = ap (λ b. b && each_fits xs) h.0 ∙ all_fit xs h.1
 
-fit_append : (xs ys : List VirtualItem) → AllFit xs → AllFit ys → AllFit (xs ++ ys)
-fit_append [] ys h k = k
-fit_append (x ∷ xs) ys h k = (h.0, fit_append xs ys h.1 k)
-
 source_fits : (r : ℕ) (a : LowSource) → AllFit (source_items r a)
-source_fits r (Word i) = tt
-source_fits r (Number zero) = tt
-source_fits r (Number (suc n)) = (refl, tt)
+source_fits r a = source_each IsFit (λ rd b. refl) (λ rd n. refl) r a
 
 put_fits : (first : ℕ) (rd : VReg) (a : LowSource) → fits (put_item first rd a) ≡ true
-put_fits first rd (Word i) = refl
-put_fits first rd (Number n) = refl
+put_fits first rd a = put_each IsFit (λ r b. refl) (λ r n. refl) first rd a
 
 args_fit : (first from : ℕ) (args : List LowSource) → AllFit (args_items first from args)
-args_fit first from [] = tt
-args_fit first from (a ∷ args) = (put_fits first (Real (FIRST_ARGUMENT + from)) a, args_fit first (suc from) args)
+args_fit first from args = args_each IsFit (λ rd a. refl) (λ rd n. refl) first from args
 
 params_fit : (first from n : ℕ) → AllFit (params_items first from n)
-params_fit first from zero = tt
-params_fit first from (suc n) = (refl, params_fit first (suc from) n)
+params_fit first from n = params_each IsFit (λ rd a. refl) (λ rd m. refl) first from n
 
 is_below : (offset : ℕ) → offset < 2048 → nat_lt offset 2048 ≡ true
 is_below offset h = grind arith
@@ -77,7 +71,7 @@ stores_fit : (first offset : ℕ) (args : List LowSource) → offset + 8 * lengt
     → AllFit (stores_items first offset args)
 stores_fit first offset [] h = tt
 stores_fit first offset (a ∷ args) h =
-    fit_append (source_items FIRST_SCRATCH a) _ (source_fits FIRST_SCRATCH a)
+    each_append IsFit (source_items FIRST_SCRATCH a) _ (source_fits FIRST_SCRATCH a)
     (is_below offset (omega (arith, h)), stores_fit first (offset + 8) args (omega (arith, h)))
 
 small_fits : (op : WordOp) (b : LowSource) (first : ℕ) (rd : VReg) (a : LowSource) (c : Bool) → is_small op b ≡ c
@@ -92,16 +86,17 @@ second_fits false b = source_fits SECOND_SCRATCH b
 
 module _ (first out : ℕ) where
   with_source : (r : ℕ) (a : LowSource) (xs : List VirtualItem) → AllFit xs → AllFit (source_items r a ++ xs)
-  with_source r a xs h = fit_append (source_items r a) xs (source_fits r a) h
+  with_source r a xs h = each_append IsFit (source_items r a) xs (source_fits r a) h
 
   with_args : (args : List LowSource) (xs : List VirtualItem) → AllFit xs → AllFit (args_items first 0 args ++ xs)
-  with_args args xs h = fit_append (args_items first 0 args) xs (args_fit first 0 args) h
+  with_args args xs h = each_append IsFit (args_items first 0 args) xs (args_fit first 0 args) h
 
   code_fits : (c : Code) (m : ℕ) → HasSmallNumbers c → AllFit (code_items first out m c)
   code_fits Done m h = tt
   code_fits (Set d a rest) m h = (put_fits first (Virtual (first + d)) a, code_fits rest m h)
   code_fits (LowCompute op d a b rest) m h =
-      with_source FIRST_SCRATCH a _ (fit_append (second_items (is_small op b) b) _ (second_fits (is_small op b) b)
+      with_source FIRST_SCRATCH a _ (each_append IsFit (second_items (is_small op b) b) _
+      (second_fits (is_small op b) b)
       (small_fits op b first (Virtual (first + d)) a (is_small op b) refl, code_fits rest m h))
   code_fits (LowLoad d a offset rest) m h = with_source FIRST_SCRATCH a _ (is_below offset h.0, code_fits rest m h.1)
   code_fits (LowStore b a offset rest) m h =
@@ -113,7 +108,7 @@ module _ (first out : ℕ) where
       refl,
       (
         refl,
-        fit_append (stores_items first 0 args) _
+        each_append IsFit (stores_items first 0 args) _
             (stores_fit first 0 args (let n = h.0 in omega (arith, n))) (refl, (refl, code_fits rest m h.1)),
       ),
     ),
@@ -133,12 +128,12 @@ module _ (first out : ℕ) where
   code_fits (If cond a b one other rest) m h =
       with_source FIRST_SCRATCH a _ (with_source SECOND_SCRATCH b _ (
         refl,
-        fit_append (code_items first out (suc (suc m)) other) _
+        each_append IsFit (code_items first out (suc (suc m)) other) _
             (code_fits other (suc (suc m)) h.1) (
               refl,
               (
                 refl,
-                fit_append
+                each_append IsFit
                     (code_items first out (suc (suc m) + marks_in other) one) _
                     (code_fits one (suc (suc m) + marks_in other) h.0)
                     (refl, code_fits rest (suc (suc m) + marks_in other + marks_in one) h.2),
@@ -153,8 +148,8 @@ procs_fit : (ps : List Proc) (k first mark : ℕ) → AreSmall ps → AllFit (pr
 procs_fit [] k first mark h = tt
 procs_fit (p ∷ ps) k first mark h = (
   refl,
-  fit_append (body_items first mark p) _ (fit_append (params_items first 0 p.params) _
-      (params_fit first 0 p.params) (fit_append (code_items first mark (suc mark) p.code) (out_items mark)
+  each_append IsFit (body_items first mark p) _ (each_append IsFit (params_items first 0 p.params) _
+      (params_fit first 0 p.params) (each_append IsFit (code_items first mark (suc mark) p.code) (out_items mark)
       (code_fits first mark p.code (suc mark) h.0.1) (refl, (refl, (refl, (refl, (refl, (refl, tt))))))))
       (procs_fit ps (suc k) (first + p.words) (suc mark + marks_in p.code) h.1),
 )

@@ -1,11 +1,13 @@
 -- Items that are put one after another.
 use Rattle.std.proofs.Common.{append_assoc, ℕ, zero, suc, ◌+◌, ◌*◌, ◌<◌, ◌≡◌, List, [], ◌∷◌, ◌++◌, refl, sym, ◌∙◌}
-use Rattle.std.proofs.Common.{ap, subst, arith, take, get_or, length}
+use Rattle.std.proofs.Common.{Box, Global, Option, Some, None, ap, subst, arith, take, get_or, length}
 use Rattle.machine_words.specs.declared.conditions.Cond.{Cond}
 use Rattle.low_ir.specs.declared.code.LowCode.{LowCode}
 use Rattle.low_ir.specs.declared.code.LowSource.{LowSource}
-use Rattle.low_ir.specs.declared.code.WordOp.{WordOp}
-use Rattle.low_ir.specs.Procedures.{Code, If}
+use Rattle.low_ir.specs.declared.code.LowCode.TheVariants.{If as LowIf, If' as IfCase, CodeOf as LowCodeOf}
+use Rattle.low_ir.specs.declared.code.LowCode.TheVariants.{CodeOf' as CodeOfCase}
+use Rattle.low_ir.specs.Procedures.{Code, Done, Set, Compute, Load, Store as StoreAt, CodeOf, Build, Request, Take}
+use Rattle.low_ir.specs.Procedures.{Environment, Call, CallAt, If, Return, TailCall, TailCallAt}
 use Rattle.low_ir.specs.Views.{code_of}
 use Rattle.rv_select.specs.declared.convention.TheConstants.{FIRST_SCRATCH, SECOND_SCRATCH, FIRST_ARGUMENT, ALLOCATION}
 use Rattle.rv_select.specs.declared.code.VReg.TheVariants.{Real, Virtual}
@@ -14,8 +16,7 @@ use Rattle.rv_select.specs.declared.code.VirtualItem.TheVariants.{Move, Store, B
 use Rattle.rv_select.specs.Sizes.{HasSmallNumbers}
 use Rattle.rv_select.specs.Select.{put_item, source_reg, source_items, args_items, params_items, stores_items}
 use Rattle.rv_select.specs.Select.{branch_items, code_items, marks_in}
-use Rattle.rv_select.specs.Select.{compute_items, load_items, store_items, build_items, request_items, take_items}
-use Rattle.rv_select.specs.Select.{call_items, call_at_items}
+use Rattle.rv_select.specs.Stepwise.{step_items, later}
 
 args_next : (first from i : ℕ) (xs : List LowSource) (d : LowSource) → i < length xs
     → args_items first from (take (suc i) xs)
@@ -145,54 +146,65 @@ marks_more m m1 m2 m3 m4 cond a b one other rest d e f g = omega (arith, d, e, f
 
 -- ---- a step and the rest
 
--- behind the items of a step stand those of the rest
+-- neither a branch nor a code address
+abbrev IsStraight : Code → Type 0
+IsStraight (If cond a b one other rest) = ⊥
+IsStraight (CodeOf d k rest) = ⊥
+IsStraight c = Unit {0}
+
+abbrev IsNoIf : LowCode → Type 0
+IsNoIf left =
+    (cond : Cond) (a b : LowSource) (one other rest : Box LowCode Global) → left ≡ LowIf cond a b one other rest → ⊥
+
+abbrev IsNoCodeOf : LowCode → Type 0
+IsNoCodeOf left = (d k : ℕ) (rest : Box LowCode Global) → left ≡ LowCodeOf d k rest → ⊥
+
+straight : (left : LowCode) → IsNoIf left → IsNoCodeOf left → IsStraight (code_of left)
+straight (IfCase cond a b p one q other r rest) n m = n cond a b _ _ _ refl
+straight (CodeOfCase d k p rest) n m = m d k _ refl
+straight left n m = tt
+
+-- behind the items of a step stand those of what is done later, which has as many marks and as small numbers
+abbrev Continues : ℕ → ℕ → ℕ → Code → Option Code → Type 0
+Continues first out m c None = (step_items first out c ≡ code_items first out m c) × (marks_in c ≡ 0)
+Continues first out m c (Some rest) =
+    (step_items first out c ++ code_items first out m rest ≡ code_items first out m c) × (marks_in c ≡ marks_in rest)
+    × (HasSmallNumbers c → HasSmallNumbers rest)
+
+continues : (first out m : ℕ) (c : Code) → IsStraight c → Continues first out m c (later c)
+continues first out m Done s = (refl, refl)
+continues first out m (Set d a rest) s = (refl, refl, λ h. h)
+continues first out m (Compute op d a b rest) s = (simp append_assoc refl, refl, λ h. h)
+continues first out m (Load d a offset rest) s = (simp append_assoc refl, refl, λ h. h.1)
+continues first out m (StoreAt b a offset rest) s = (simp append_assoc refl, refl, λ h. h.1)
+continues first out m (CodeOf d k rest) s = absurd s
+continues first out m (Build d args rest) s = (simp append_assoc refl, refl, λ h. h.1)
+continues first out m (Request d a rest) s = (simp append_assoc refl, refl, λ h. h)
+continues first out m (Take a rest) s = (simp append_assoc refl, refl, λ h. h)
+continues first out m (Environment number a b d e rest) s = (refl, refl, λ h. h)
+continues first out m (Call d k args rest) s = (simp append_assoc refl, refl, λ h. h.1)
+continues first out m (CallAt d f args rest) s = (simp append_assoc refl, refl, λ h. h.1)
+continues first out m (If cond a b one other rest) s = absurd s
+continues first out m (Return a) s = (refl, refl)
+continues first out m (TailCall k args) s = (refl, refl)
+continues first out m (TailCallAt f args) s = (refl, refl)
+
+-- what is put behind items, and what comes behind that
 pub behind : (i0 i1 xs ys whole : List VirtualItem) → i1 ≡ i0 ++ xs → xs ++ ys ≡ whole → i1 ++ ys ≡ i0 ++ whole
 behind i0 i1 xs ys whole h e = ap (λ z. z ++ ys) h ∙ (append_assoc i0 xs ys ∙ ap (λ z. i0 ++ z) e)
 
--- what is done and what the rest gives are all, also behind an instruction x that makes no mark
-pub goes_on : (first out marks : ℕ) (before new : List VirtualItem) {all : List VirtualItem} {last : ℕ}
-    (left next : LowCode) (x rest : Code) → code_of left ≡ x → code_of next ≡ rest
-    → new ++ code_items first out marks rest ≡ before ++ code_items first out marks x → marks_in x ≡ marks_in rest
-    → (HasSmallNumbers x → HasSmallNumbers rest) → before ++ code_items first out marks (code_of left) ≡ all
-    → marks + marks_in (code_of left) ≡ last → HasSmallNumbers (code_of left)
-    → (new ++ code_items first out marks (code_of next) ≡ all) × (marks + marks_in (code_of next) ≡ last)
-    × HasSmallNumbers (code_of next)
-goes_on first out marks before new left next x rest l r items same smaller whole count small = (
-  ap (λ c. new ++ code_items first out marks c) r ∙ items
-      ∙ sym (ap (λ c. before ++ code_items first out marks c) l) ∙ whole,
-  ap (λ c. marks + marks_in c) r ∙ sym (ap (λ n. marks + n) same) ∙ sym (ap (λ c. marks + marks_in c) l) ∙ count,
-  subst HasSmallNumbers (sym r) (smaller (subst HasSmallNumbers l small)),
-)
-
--- so they do behind an operation, and behind each of the others
-pub compute_behind : (first : ℕ) (op : WordOp) (d : ℕ) (a b : LowSource) (i0 i1 ys : List VirtualItem)
-    → i1 ≡ i0 ++ compute_items first op d a b [] → i1 ++ ys ≡ i0 ++ compute_items first op d a b ys
-compute_behind first op d a b i0 i1 ys h = behind i0 i1 _ ys _ h (simp append_assoc refl)
-
-pub load_behind : (first d : ℕ) (a : LowSource) (offset : ℕ) (i0 i1 ys : List VirtualItem)
-    → i1 ≡ i0 ++ load_items first d a offset [] → i1 ++ ys ≡ i0 ++ load_items first d a offset ys
-load_behind first d a offset i0 i1 ys h = behind i0 i1 _ ys _ h (simp append_assoc refl)
-
-pub store_behind : (first : ℕ) (b a : LowSource) (offset : ℕ) (i0 i1 ys : List VirtualItem)
-    → i1 ≡ i0 ++ store_items first b a offset [] → i1 ++ ys ≡ i0 ++ store_items first b a offset ys
-store_behind first b a offset i0 i1 ys h = behind i0 i1 _ ys _ h (simp append_assoc refl)
-
-pub build_behind : (first out d : ℕ) (args : List LowSource) (i0 i1 ys : List VirtualItem)
-    → i1 ≡ i0 ++ build_items first out d args [] → i1 ++ ys ≡ i0 ++ build_items first out d args ys
-build_behind first out d args i0 i1 ys h = behind i0 i1 _ ys _ h (simp append_assoc refl)
-
-pub request_behind : (first out d : ℕ) (a : LowSource) (i0 i1 ys : List VirtualItem)
-    → i1 ≡ i0 ++ request_items first out d a [] → i1 ++ ys ≡ i0 ++ request_items first out d a ys
-request_behind first out d a i0 i1 ys h = behind i0 i1 _ ys _ h (simp append_assoc refl)
-
-pub take_behind : (first : ℕ) (a : LowSource) (i0 i1 ys : List VirtualItem)
-    → i1 ≡ i0 ++ take_items first a [] → i1 ++ ys ≡ i0 ++ take_items first a ys
-take_behind first a i0 i1 ys h = behind i0 i1 _ ys _ h (simp append_assoc refl)
-
-pub call_behind : (first d k : ℕ) (args : List LowSource) (i0 i1 ys : List VirtualItem)
-    → i1 ≡ i0 ++ call_items first d k args [] → i1 ++ ys ≡ i0 ++ call_items first d k args ys
-call_behind first d k args i0 i1 ys h = behind i0 i1 _ ys _ h (simp append_assoc refl)
-
-pub call_at_behind : (first d : ℕ) (f : LowSource) (args : List LowSource) (i0 i1 ys : List VirtualItem)
-    → i1 ≡ i0 ++ call_at_items first d f args [] → i1 ++ ys ≡ i0 ++ call_at_items first d f args ys
-call_at_behind first d f args i0 i1 ys h = behind i0 i1 _ ys _ h (simp append_assoc refl)
+-- what is done and what is left are all, and so they are behind a step
+pub goes_on : (first out m : ℕ) (old new all : List VirtualItem) (left rest : LowCode) (last : ℕ)
+    → IsNoIf left → IsNoCodeOf left
+    → later (code_of left) ≡ Some (code_of rest) → new ≡ old ++ step_items first out (code_of left)
+    → old ++ code_items first out m (code_of left) ≡ all → m + marks_in (code_of left) ≡ last
+    → HasSmallNumbers (code_of left)
+    → (new ++ code_items first out m (code_of rest) ≡ all) × (m + marks_in (code_of rest) ≡ last)
+    × HasSmallNumbers (code_of rest)
+goes_on first out m old new all left rest last n k e put whole count small =
+    let c = code_of left in
+    let on = subst (Continues first out m c) e (continues first out m c (straight left n k)) in (
+      behind old new (step_items first out (code_of left)) (code_items first out m (code_of rest)) _ put on.0 ∙ whole,
+      sym (ap (λ n. m + n) on.1) ∙ count,
+      on.2 small,
+    )

@@ -9,6 +9,7 @@ use Rattle.low_ir.specs.Steps.{Locals}
 use Rattle.low_ir.specs.declared.code.LowSource.{LowSource}
 use Rattle.low_ir.specs.declared.code.LowSource.TheVariants.{Word, Number}
 use Rattle.low_ir.specs.Run.{word_of}
+use Rattle.rv_select.specs.declared.convention.TheConstants.{THIRD_SCRATCH}
 use Rattle.rv_select.specs.declared.convention.TheConstants.{FIRST_SCRATCH, SECOND_SCRATCH, STACK_END, ALLOCATION}
 use Rattle.rv_select.specs.declared.convention.TheConstants.{REGION_END}
 use Rattle.rv_select.specs.declared.code.VReg.{VReg}
@@ -88,6 +89,15 @@ fetches_ge (Word i) k = omega arith
 fetches_ge (Number zero) k = omega arith
 fetches_ge (Number (suc n)) k = omega arith
 
+pub first_is_scratch : Scratch FIRST_SCRATCH
+first_is_scratch = (refl, refl, refl, refl)
+
+pub second_is_scratch : Scratch SECOND_SCRATCH
+second_is_scratch = (refl, refl, refl, refl)
+
+pub third_is_scratch : Scratch THIRD_SCRATCH
+third_is_scratch = (refl, refl, refl, refl)
+
 written : (r w : ℕ) (regs : Registers) (known : ℕ → Bool) → Scratch r
     → (if may_read r && (is_fixed r || also_known r known r) then Some (get_reg (set_reg r w regs) r) else None)
     ≡ Some w
@@ -159,12 +169,12 @@ module _ {V : Type 0} (reading : Halt → Ending V) (setting : Setting) where
         (prices setting t.active.found (source_items FIRST_SCRATCH a)
         (prices setting t.active.found (source_items SECOND_SCRATCH b) left)) t
     fetch_both a b x y t rest k left ae be f s p go =
-        fetch FIRST_SCRATCH (refl, refl, refl, refl) a x t (source_items SECOND_SCRATCH b ++ rest) (fetches b k)
+        fetch FIRST_SCRATCH first_is_scratch a x t (source_items SECOND_SCRATCH b ++ rest) (fetches b k)
         (prices setting t.active.found (source_items SECOND_SCRATCH b) left) ae f s
         (p t.regs t.known t.pc (fixed_self t.regs)) (λ regs known kept va.
         let u : VirtualState = record t
         { regs = regs; known = known; pc = beyond (source_items FIRST_SCRATCH a) t.pc } in
-        fetch SECOND_SCRATCH (refl, refl, refl, refl) b y u rest k left be f
+        fetch SECOND_SCRATCH second_is_scratch b y u rest k left be f
         (stands_past reading setting (source_items FIRST_SCRATCH a)
         (source_items SECOND_SCRATCH b ++ rest) t.pc s) (p regs known u.pc (kept_fixed kept refl refl refl))
         (λ regs2 known2 kept2 vb.

@@ -88,7 +88,8 @@ module _ {V : Type 0} (reading : Halt → Ending V) (low : LowSetting) (entry : 
       ) in
       let paid = way.2 in (way.0, way.1, omega (arith, paid, few), way.3)
 
-  first : Alike (SameRegion (regs STACK_END) low.top) (low_machine reading low) (virtual_machine reading setting) s0 t0
+  pub first : Alike (SameRegion (regs STACK_END) low.top) (low_machine reading low) (virtual_machine reading setting)
+      s0 t0
   first = as_alike program s0 t0 (
     (λ at h. refl),
     alloc,

@@ -35,6 +35,7 @@ use Rattle.rv_select.proofs.Paying.{unmetered}
 use Rattle.rv_select.proofs.Relation.{Program, On, OnWith, Laid, as_alike, seen as seen_as}
 use Rattle.rv_select.proofs.Stepping.{purse_of}
 use Rattle.rv_select.proofs.Moves.{do_code}
+use Rattle.rv_select.proofs.Following.{first}
 use Rattle.rv_select.proofs.Following.{all, starts}
 
 unless : {V P : Type 0} (e : Ending V) → P → UnlessWrong e P
@@ -596,18 +597,6 @@ module _ {V : Type 0} (reading : Halt → Ending V) (low : LowSetting) (entry : 
   laid_out : Laid (program reading low code (regs STACK_END) small room)
   laid_out = all reading low entry p regs memory world small fits even found none alloc top
 
-  first : Alike (SameRegion (regs STACK_END) low.top) (low_machine reading low)
-      (virtual_machine reading (setting_of low code)) s0 t0
-  first = as_alike (program reading low code (regs STACK_END) small room) s0 t0 (
-    (λ at h. refl),
-    alloc,
-    (omega arith, omega arith),
-    refl,
-    fits,
-    refl,
-    top,
-  )
-
   begun : (j : ℕ) × (j ≤ 1)
       × Pays (NS reading low code (regs STACK_END) small room) (virtual_price (setting_of low code))
       (Alike (SameRegion (regs STACK_END) low.top) (MS reading low code (regs STACK_END) small room)
@@ -615,7 +604,8 @@ module _ {V : Type 0} (reading : Halt → Ending V) (low : LowSetting) (entry : 
       start_price t0
   begun = first_in_stack reading low code (regs STACK_END) small room start_price s0 t0 (omega arith)
       (starts reading low entry p regs memory world small fits even found none alloc top
-      (Way reading low code (regs STACK_END) small room s0 s0) (inl first, tt))
+      (Way reading low code (regs STACK_END) small room s0 s0)
+      (inl (first reading low entry p regs memory world small fits even found none alloc top), tt))
 
   never_in_stack : NeverWrong (run (MS reading low code (regs STACK_END) small room) s0)
   never_in_stack = low_never_wrong reading low room lacking s0 never

@@ -17,13 +17,13 @@ use Rattle.rv_select.specs.declared.convention.TheConstants.{FIRST_ARGUMENT, SEC
 use Rattle.rv_select.specs.declared.code.VReg.{VReg}
 use Rattle.rv_select.specs.declared.code.VReg.TheVariants.{Real, Virtual}
 use Rattle.rv_select.specs.declared.code.VirtualItem.{VirtualItem}
-use Rattle.rv_select.specs.declared.code.VirtualItem.TheVariants.{Mark, Procedure}
+use Rattle.rv_select.specs.declared.code.VirtualItem.TheVariants.{Constant, Move, Mark, Procedure}
 use Rattle.rv_select.specs.Run.{Setting, Found, procedure_from, procedure_at, mark_from, mark_place}
 use Rattle.rv_select.specs.Select.{is_small, second_items, compute_item, put_item, source_items, args_items}
 use Rattle.rv_select.specs.Select.{params_items, stores_items, marks_in, code_items, out_items, body_items}
 use Rattle.rv_select.specs.Select.{procs_items, select_items}
 use Rattle.rv_select.specs.Marks.{NotIn, Distinct, marks}
-use Rattle.rv_select.proofs.Marks.{Each, body_fresh}
+use Rattle.rv_select.proofs.Marks.{Each, each_append, body_fresh}
 use Rattle.rv_select.proofs.Stretches.{Stands, stands_front, stands_past, beyond}
 use Rattle.rv_select.proofs.Relation.{Program, Finds, finds_front, finds_past, Entered, Laid}
 use Rattle.rv_select.specs.Selected.{setting_of}
@@ -35,12 +35,30 @@ IsBody item = Unit {0}
 
 -- nor is any of these
 abbrev pub AreBody : List VirtualItem → Type 0
-AreBody [] = Unit {0}
-AreBody (x ∷ xs) = IsBody x × AreBody xs
+AreBody xs = Each IsBody xs
 
-body_append : (xs ys : List VirtualItem) → AreBody xs → AreBody ys → AreBody (xs ++ ys)
-body_append [] ys h k = k
-body_append (x ∷ xs) ys h k = (h.0, body_append xs ys h.1 k)
+-- ---- what holds of moves and constants holds of the items that put words
+
+module _ (P : VirtualItem → Type 0) (moved : (rd a : VReg) → P (Move rd a))
+    (constant : (rd : VReg) (n : ℕ) → P (Constant rd n)) where
+  pub source_each : (r : ℕ) (a : LowSource) → Each P (source_items r a)
+  source_each r (Word i) = tt
+  source_each r (Number zero) = tt
+  source_each r (Number (suc n)) = (constant (Real r) (suc n), tt)
+
+  pub put_each : (first : ℕ) (rd : VReg) (a : LowSource) → P (put_item first rd a)
+  put_each first rd (Word i) = moved rd (Virtual (first + i))
+  put_each first rd (Number n) = constant rd n
+
+  pub args_each : (first from : ℕ) (args : List LowSource) → Each P (args_items first from args)
+  args_each first from [] = tt
+  args_each first from (a ∷ args) =
+      (put_each first (Real (FIRST_ARGUMENT + from)) a, args_each first (suc from) args)
+
+  pub params_each : (first from n : ℕ) → Each P (params_items first from n)
+  params_each first from zero = tt
+  params_each first from (suc n) =
+      (moved (Virtual (first + from)) (Real (FIRST_ARGUMENT + from)), params_each first (suc from) n)
 
 skip_number : (x : VirtualItem) (k p : ℕ) (rest : List VirtualItem) → IsBody x
     → procedure_from k p (x ∷ rest) ≡ procedure_from k (suc p) rest
@@ -64,33 +82,29 @@ skip_addresses (x ∷ xs) rest address at p h =
     skip_address x address at p (xs ++ rest) h.0 ∙ skip_addresses xs rest address at (suc p) h.1
 
 source_body : (r : ℕ) (a : LowSource) → AreBody (source_items r a)
-source_body r (Word i) = tt
-source_body r (Number zero) = tt
-source_body r (Number (suc n)) = (tt, tt)
+source_body r a = source_each IsBody (λ rd b. tt) (λ rd n. tt) r a
 
 put_body : (first : ℕ) (rd : VReg) (a : LowSource) → IsBody (put_item first rd a)
-put_body first rd (Word i) = tt
-put_body first rd (Number n) = tt
+put_body first rd a = put_each IsBody (λ r b. tt) (λ r n. tt) first rd a
 
 args_body : (first from : ℕ) (args : List LowSource) → AreBody (args_items first from args)
-args_body first from [] = tt
-args_body first from (a ∷ args) = (put_body first (Real (FIRST_ARGUMENT + from)) a, args_body first (suc from) args)
+args_body first from args = args_each IsBody (λ rd a. tt) (λ rd n. tt) first from args
 
 params_body : (first from n : ℕ) → AreBody (params_items first from n)
-params_body first from zero = tt
-params_body first from (suc n) = (tt, params_body first (suc from) n)
+params_body first from n = params_each IsBody (λ rd a. tt) (λ rd m. tt) first from n
 
 stores_body : (first offset : ℕ) (args : List LowSource) → AreBody (stores_items first offset args)
 stores_body first offset [] = tt
 stores_body first offset (a ∷ args) =
-    body_append (source_items FIRST_SCRATCH a) _ (source_body FIRST_SCRATCH a) (tt, stores_body first (offset + 8) args)
+    each_append IsBody (source_items FIRST_SCRATCH a) _ (source_body FIRST_SCRATCH a)
+    (tt, stores_body first (offset + 8) args)
 
 module _ (first out : ℕ) where
   with_source : (r : ℕ) (a : LowSource) (xs : List VirtualItem) → AreBody xs → AreBody (source_items r a ++ xs)
-  with_source r a xs h = body_append (source_items r a) xs (source_body r a) h
+  with_source r a xs h = each_append IsBody (source_items r a) xs (source_body r a) h
 
   with_args : (args : List LowSource) (xs : List VirtualItem) → AreBody xs → AreBody (args_items first 0 args ++ xs)
-  with_args args xs h = body_append (args_items first 0 args) xs (args_body first 0 args) h
+  with_args args xs h = each_append IsBody (args_items first 0 args) xs (args_body first 0 args) h
 
   with_compute : (c : Bool) (op : WordOp) (rd : VReg) (a b : LowSource) (xs : List VirtualItem) → AreBody xs
       → AreBody (second_items c b ++ (compute_item c first op rd a b ∷ xs))
@@ -112,7 +126,7 @@ module _ (first out : ℕ) where
       tt,
       (
         tt,
-        body_append (stores_items first 0 args) _ (stores_body first 0 args) (
+        each_append IsBody (stores_items first 0 args) _ (stores_body first 0 args) (
           tt,
           (tt, code_body rest m),
         ),
@@ -133,12 +147,12 @@ module _ (first out : ℕ) where
   code_body (If cond a b one other rest) m =
       with_source FIRST_SCRATCH a _ (with_source SECOND_SCRATCH b _ (
         tt,
-        body_append (code_items first out (suc (suc m)) other) _
+        each_append IsBody (code_items first out (suc (suc m)) other) _
             (code_body other (suc (suc m))) (
               tt,
               (
                 tt,
-                body_append (code_items first out (suc (suc m) + marks_in other) one) _
+                each_append IsBody (code_items first out (suc (suc m) + marks_in other) one) _
                     (code_body one (suc (suc m) + marks_in other)) (
                       tt,
                       code_body rest (suc (suc m) + marks_in other + marks_in one),
@@ -153,8 +167,8 @@ module _ (first out : ℕ) where
 -- nothing in the body of a procedure begins another
 pub body_is_body : (first mark : ℕ) (p : Proc) → AreBody (body_items first mark p)
 body_is_body first mark p =
-    body_append (params_items first 0 p.params) _ (params_body first 0 p.params)
-    (body_append (code_items first mark (suc mark) p.code) (out_items mark)
+    each_append IsBody (params_items first 0 p.params) _ (params_body first 0 p.params)
+    (each_append IsBody (code_items first mark (suc mark) p.code) (out_items mark)
     (code_body first mark p.code (suc mark)) (tt, (tt, (tt, (tt, (tt, (tt, tt)))))))
 
 -- ---- what lies from a place on

@@ -12,7 +12,7 @@ use Rattle.rv_machine.specs.Registers.{Registers, set_reg}
 use Rattle.machine_words.specs.Halts.{Ended}
 use Rattle.low_ir.specs.declared.code.LowSource.{LowSource}
 use Rattle.low_ir.specs.Procedures.{Return as LowReturn, TailCall as LowTailCall, TailCallAt as LowTailCallAt, Proc}
-use Rattle.low_ir.specs.Run.{Waiting, LowState, word_of, words_of, with_local, proc_from, answers, code_step}
+use Rattle.low_ir.specs.Run.{Waiting, LowState, word_of, words_of, with_local, proc_from, answers}
 use Rattle.low_ir.specs.Run.{held_by as words_held}
 use Rattle.low_ir.specs.Prices.{leaving, step_price}
 use Rattle.rv_select.specs.declared.convention.TheConstants.{THIRD_SCRATCH, FIRST_ARGUMENT, SECOND_ARGUMENT, ANSWER}
@@ -26,6 +26,7 @@ use Rattle.rv_select.specs.Run.{item_step}
 use Rattle.rv_select.specs.Select.{put_item, source_reg, source_items, args_items, params_items}
 use Rattle.rv_select.specs.Prices.{giving_up, item_price}
 use Rattle.rv_select.proofs.Pricing.{own_slot, leaving_paid, source_paid, put_paid}
+use Rattle.rv_select.proofs.Fetching.{third_is_scratch}
 use Rattle.rv_select.proofs.Fetching.{kept_fixed, fetches, fetches_ge, fetch}
 use Rattle.rv_select.proofs.Handing.{args_known, known_args, words_length, args_regs, has_args, set_shifted, plus_steps}
 use Rattle.rv_select.proofs.Handing.{put_real}
@@ -34,7 +35,8 @@ use Rattle.rv_select.proofs.Stretches.{beyond, SameFixed, fixed_self, PaidWay, p
 use Rattle.rv_select.proofs.Relation.{Program, Behind, setting, On, Entered, Here, Way, At, owed, Body, body_regs}
 use Rattle.rv_select.proofs.Relation.{Laid, way_first, SeenAs, seen, end_is_owed, way_seen, as_alike, way_second}
 use Rattle.rv_select.proofs.Relation.{all_owed}
-use Rattle.rv_select.proofs.Stepping.{LiesOn, Sim, purse_of, sim_given, sim_if, called_by, Ends, unless, stops_here}
+use Rattle.rv_select.proofs.Stepping.{DoesStep}
+use Rattle.rv_select.proofs.Stepping.{Sim, purse_of, sim_given, sim_if, called_by, Ends, unless, stops_here}
 use Rattle.rv_select.proofs.Stepping.{cost_here, own}
 use Rattle.rv_select.proofs.Calling.{at_home, entered, entering_paid, handed, from_home, body_args, fits_eight}
 use Rattle.rv_select.proofs.Calling.{call_steps, enters_paid, entry_paid, args_kept, no_arg}
@@ -88,9 +90,7 @@ module _ {V : Type 0} (program : Program V) where
       subst (λ n. giving_up n ≤ leaving s.active.count) (sym on.active.homed.count) (leaving_paid s.active.count)
 
   pub do_tail : Laid program → (s : LowState) (t : VirtualState) (on : On program s t) (k : ℕ) (args : List LowSource)
-      → LiesOn program s t on t.pc (LowTailCall k args)
-      → Sim program (purse_of program s (LowTailCall k args)) s t (code_step program.reading program.low
-      (LowTailCall k args) s)
+      → DoesStep program s t on (LowTailCall k args)
   do_tail laid s t on k args lies =
       let from : Found = t.active.found in
       let purse : ℕ = purse_of program s (LowTailCall k args) in
@@ -115,9 +115,7 @@ module _ {V : Type 0} (program : Program V) where
 
   pub do_tail_at : Laid program → (s : LowState) (t : VirtualState) (on : On program s t)
       (a : LowSource) (args : List LowSource)
-      → LiesOn program s t on t.pc (LowTailCallAt a args)
-      → Sim program (purse_of program s (LowTailCallAt a args)) s t (code_step program.reading program.low
-      (LowTailCallAt a args) s)
+      → DoesStep program s t on (LowTailCallAt a args)
   do_tail_at laid s t on a args lies =
       let from : Found = t.active.found in
       let purse : ℕ = purse_of program s (LowTailCallAt a args) in
@@ -143,12 +141,8 @@ module _ {V : Type 0} (program : Program V) where
         (let i = source_paid (setting program) from THIRD_SCRATCH a later in
             let j = enters_paid program from l.0 args ws item p.params (owed s.waiting) many f3.0 f3.1 in
             let c = given_up s t on in omega (arith, i, j, c)),
-        fetch program.reading (setting program) (Way program s s1) (At program s1) s.active.locals THIRD_SCRATCH (
-          refl,
-          refl,
-          refl,
-          refl,
-        ) a at t tail total later ae on.active.locals lies.stands (way_first program s s1 t on.body)
+        fetch program.reading (setting program) (Way program s s1) (At program s1) s.active.locals THIRD_SCRATCH
+            third_is_scratch a at t tail total later ae on.active.locals lies.stands (way_first program s s1 t on.body)
             (λ regs known kept va.
             tail_from s t on args ws p l.0 item regs known pc (kept_fixed kept refl refl refl) l.2 e
             (stands_past program.reading (setting program) (source_items THIRD_SCRATCH a) tail t.pc lies.stands)
@@ -165,8 +159,7 @@ module _ {V : Type 0} (program : Program V) where
   answer_call x u = refl
 
   pub do_return : (s : LowState) (t : VirtualState) (on : On program s t) (a : LowSource)
-      → LiesOn program s t on t.pc (LowReturn a)
-      → Sim program (purse_of program s (LowReturn a)) s t (code_step program.reading program.low (LowReturn a) s)
+      → DoesStep program s t on (LowReturn a)
   do_return s t on a lies =
       sim_given program purse s s t
       (word_of s.active.locals a) _ (λ x e. returned x e s.waiting t.frames refl refl on.behind

@@ -4,13 +4,14 @@ use Rattle.low_ir.specs.Procedures.{Code, Done, Set, Compute as LowCompute, Load
 use Rattle.low_ir.specs.Procedures.{CodeOf as LowCodeOf, Build, Request, Take, Environment as LowEnvironment}
 use Rattle.low_ir.specs.Procedures.{Call as LowCall, CallAt as LowCallAt, If, Return as LowReturn}
 use Rattle.low_ir.specs.Procedures.{TailCall as LowTailCall, TailCallAt as LowTailCallAt}
-use Rattle.low_ir.specs.Run.{LowState, code_step}
+use Rattle.low_ir.specs.Run.{LowState}
 use Rattle.low_ir.specs.Prices.{low_price}
 use Rattle.rv_select.specs.Run.{VirtualState}
 use Rattle.rv_select.specs.Selected.{SameRegion}
 use Rattle.rv_select.proofs.Paying.{PaidSimulation, does_with_more}
 use Rattle.rv_select.proofs.Relation.{Program, Laid, On, M, N, cost, OnWith, as_alike, seen}
-use Rattle.rv_select.proofs.Stepping.{LiesOn, Sim, purse_of, size}
+use Rattle.rv_select.proofs.Stepping.{DoesStep}
+use Rattle.rv_select.proofs.Stepping.{purse_of, size}
 use Rattle.rv_select.proofs.Straight.{do_set, do_compute, do_load, do_store}
 use Rattle.rv_select.proofs.Allocating.{do_build, do_request, do_take}
 use Rattle.rv_select.proofs.Outside.{do_environment}
@@ -20,8 +21,7 @@ use Rattle.rv_select.proofs.Leaving.{do_return, do_tail, do_tail_at}
 
 module _ {V : Type 0} (program : Program V) where
   pub do_code : Laid program → (s : LowState) (t : VirtualState) (on : On program s t) (c : Code)
-      → LiesOn program s t on t.pc c
-      → Sim program (purse_of program s c) s t (code_step program.reading program.low c s)
+      → DoesStep program s t on c
   do_code laid s t on Done lies = do_done program s t on lies
   do_code laid s t on (Set d a rest) lies = do_set program s t on d a rest lies
   do_code laid s t on (LowCompute op d a b rest) lies = do_compute program s t on op d a b rest lies

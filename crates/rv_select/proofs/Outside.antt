@@ -9,7 +9,7 @@ use Rattle.low_ir.specs.Steps.{set_local, Effect, Goes, Halts, Lost, effect_of, 
 use Rattle.low_ir.specs.declared.code.LowSource.{LowSource}
 use Rattle.low_ir.specs.declared.code.LowSource.TheVariants.{Number}
 use Rattle.low_ir.specs.Procedures.{Code, Environment as LowEnvironment}
-use Rattle.low_ir.specs.Run.{LowState, word_of, with_local, code_step}
+use Rattle.low_ir.specs.Run.{LowState, word_of, with_local}
 use Rattle.low_ir.specs.Prices.{source_price}
 use Rattle.rv_select.specs.declared.convention.TheConstants.{FIRST_ARGUMENT, SECOND_ARGUMENT, CALL_NUMBER}
 use Rattle.rv_select.specs.declared.code.VReg.TheVariants.{Real, Virtual}
@@ -23,7 +23,8 @@ use Rattle.rv_select.proofs.Handing.{set_shifted, put_real}
 use Rattle.rv_select.proofs.Stretches.{wrote_real, wrote_local, does_item, move_local, PaidWay}
 use Rattle.rv_select.proofs.Relation.{Program, On, setting, Way, way_first, Body, owed, At, way_second, all_owed}
 use Rattle.rv_select.proofs.Relation.{as_alike, seen}
-use Rattle.rv_select.proofs.Stepping.{LiesOn, Sim, purse_of, sim_given, sim_if, popped, mine, unless, Ends}
+use Rattle.rv_select.proofs.Stepping.{DoesStep}
+use Rattle.rv_select.proofs.Stepping.{Sim, purse_of, sim_given, sim_if, popped, mine, unless, Ends}
 use Rattle.rv_select.proofs.Stepping.{stops_here, cost_here}
 
 module _ {V : Type 0} (program : Program V) where
@@ -37,9 +38,7 @@ module _ {V : Type 0} (program : Program V) where
   })
 
   pub do_environment : (s : LowState) (t : VirtualState) (on : On program s t) (number : ℕ) (a b : LowSource) (d e : ℕ)
-      (rest : Code) → LiesOn program s t on t.pc (LowEnvironment number a b d e rest)
-      → Sim program (purse_of program s (LowEnvironment number a b d e rest)) s t
-      (code_step program.reading program.low (LowEnvironment number a b d e rest) s)
+      (rest : Code) → DoesStep program s t on (LowEnvironment number a b d e rest)
   do_environment s t on number a b d e rest lies =
       sim_given program purse s s t (word_of s.active.locals a) _ (λ x xe.
       sim_given program purse s s t (word_of s.active.locals b) _ (λ y ye.

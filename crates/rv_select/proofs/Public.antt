@@ -6,3 +6,4 @@ pub use Rattle.rv_select.proofs.Spared.{calls_spare_what_is_known_behind_them}
 pub use Rattle.rv_select.proofs.Paying.{Pays, pays_weaken, DoesPaid, PaidSimulation, does_with_more, follows_paid}
 pub use Rattle.rv_select.proofs.Paying.{unmetered}
 pub use Rattle.rv_select.proofs.Closedness.{closed_entry}
+pub use Rattle.rv_select.proofs.Straight.{with_few}

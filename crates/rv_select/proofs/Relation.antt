@@ -194,16 +194,7 @@ module _ {V : Type 0} (program : Program V) where
       → Alike (SameRegion program.stack program.low.top) M N s t
   as_alike s t h = record {
     output = ap (λ (w : WorldState). w.output) h.3;
-    shown =
-        record {
-          memory = h.0;
-          alloc = h.1;
-          inside = h.4;
-          stack = h.5;
-          top = h.6;
-          frames = h.2.0;
-          held = h.2.1;
-        };
+    shown = assumption;
   }
 
   pub way_seen : (s s1 : LowState) (t : VirtualState) → SeenAs s t → Way s s1 t

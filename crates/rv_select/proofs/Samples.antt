@@ -1,12 +1,12 @@
 -- Small runs, by computation: they show that the definitions say something.
-use Rattle.std.proofs.Common.{ℕ, ◌+◌, ◌*◌, ◌≡◌, true, [], ◌∷◌, Some, refl}
+use Rattle.std.proofs.Common.{ℕ, ◌+◌, ◌*◌, ◌≡◌, true, [], ◌∷◌, Option, Some, refl}
 use Rattle.std.specs.Prelude.{pos}
 use Rattle.grift_base.specs.World.{WorldState}
 use Rattle.grift_base.specs.EnvironmentCall.{environment_call}
 use Rattle.grift_base.specs.declared.verdicts.AnswerKind.TheVariants.{Int as IntKind}
 use Rattle.grift_base.specs.declared.verdicts.Verdict.{Verdict as Outcome}
 use Rattle.grift_base.specs.declared.verdicts.Verdict.TheVariants.{Answer, RegionOut}
-use Rattle.run_laws.specs.Runs.{Verdict}
+use Rattle.run_laws.specs.Runs.{Ending, Verdict}
 use Rattle.run_laws.specs.Machines.{run}
 use Rattle.run_laws.specs.Meters.{metered, unspent}
 use Rattle.machine_words.specs.declared.conditions.Cond.TheVariants.{Ltu, Eq}
@@ -67,36 +67,23 @@ fresh = record { output = []; input = []; place = 0 }
 five : Outcome
 five = Answer (record { kind = IntKind; word = pos 5 })
 
-low_answers : (run (low_machine stop_of (low_in 67064)) (low_start (low_in 67064) main no_memory fresh) 40).ending
-    ≡ Some (Verdict five)
-unfolding low_in main counts no_memory fresh five load_bytes store_bytes environment_call
-low_answers = refl
+-- what both runs end with in a region of so many bytes
+low_ends : ℕ → Option (Ending Outcome)
+low_ends bytes = (run (low_machine stop_of (low_in (67000 + bytes)))
+    (low_start (low_in (67000 + bytes)) main no_memory fresh) 40).ending
 
-virtual_answers : (run (virtual_machine stop_of (setting_of (low_in 67064) (select_items 0 (main ∷ counts ∷ []))))
-    (virtual_start (start_regs 67000 64 4096) no_memory fresh) 90).ending ≡ Some (Verdict five)
-unfolding low_in main counts no_memory fresh five load_bytes store_bytes environment_call
-virtual_answers = refl
+virtual_ends : ℕ → Option (Ending Outcome)
+unfolding main counts
+virtual_ends bytes = (run (virtual_machine stop_of (setting_of (low_in (67000 + bytes))
+    (select_items 0 (main ∷ counts ∷ []))))
+    (virtual_start (start_regs 67000 bytes 4096) no_memory fresh) 90).ending
 
--- where an object of two words just fits, and where it doesn't
-low_fits : (run (low_machine stop_of (low_in 67016)) (low_start (low_in 67016) main no_memory fresh) 40).ending
-    ≡ Some (Verdict five)
-unfolding low_in main counts no_memory fresh five load_bytes store_bytes environment_call
-low_fits = refl
-
-virtual_fits : (run (virtual_machine stop_of (setting_of (low_in 67016) (select_items 0 (main ∷ counts ∷ []))))
-    (virtual_start (start_regs 67000 16 4096) no_memory fresh) 90).ending ≡ Some (Verdict five)
-unfolding low_in main counts no_memory fresh five load_bytes store_bytes environment_call
-virtual_fits = refl
-
-low_lacks : (run (low_machine stop_of (low_in 67008)) (low_start (low_in 67008) main no_memory fresh) 40).ending
-    ≡ Some (Verdict RegionOut)
-unfolding low_in main counts no_memory fresh load_bytes store_bytes environment_call
-low_lacks = refl
-
-virtual_lacks : (run (virtual_machine stop_of (setting_of (low_in 67008) (select_items 0 (main ∷ counts ∷ []))))
-    (virtual_start (start_regs 67000 8 4096) no_memory fresh) 90).ending ≡ Some (Verdict RegionOut)
-unfolding low_in main counts no_memory fresh load_bytes store_bytes environment_call
-virtual_lacks = refl
+-- both answer, also where an object of two words just fits; where it doesn't, both lack a room
+both_end_so : (low_ends 64 ≡ Some (Verdict five)) × (virtual_ends 64 ≡ Some (Verdict five))
+    × (low_ends 16 ≡ Some (Verdict five)) × (virtual_ends 16 ≡ Some (Verdict five))
+    × (low_ends 8 ≡ Some (Verdict RegionOut)) × (virtual_ends 8 ≡ Some (Verdict RegionOut))
+unfolding low_ends virtual_ends low_in main counts no_memory fresh five load_bytes store_bytes environment_call
+both_end_so = (refl, refl, refl, refl, refl, refl)
 
 -- a program of far words, whose items cost just as much as its steps and the start: so the start's price is as small as
 -- it can be

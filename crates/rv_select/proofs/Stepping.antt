@@ -10,7 +10,7 @@ use Rattle.rv_machine.specs.Registers.{Registers, set_reg}
 use Rattle.machine_words.specs.Halts.{Lacks, Region}
 use Rattle.low_ir.specs.Steps.{set_local, given, only_if, effect_of, settle}
 use Rattle.low_ir.specs.Procedures.{Code}
-use Rattle.low_ir.specs.Run.{LowState, with_local, goes_on}
+use Rattle.low_ir.specs.Run.{code_step, LowState, with_local, goes_on}
 use Rattle.low_ir.specs.Prices.{step_price}
 use Rattle.rv_select.specs.declared.convention.TheConstants.{FIRST_ARGUMENT, SECOND_ARGUMENT}
 use Rattle.rv_select.specs.declared.code.VirtualItem.{VirtualItem}
@@ -96,6 +96,11 @@ module _ {V : Type 0} (program : Program V) where
   LiesOn s t on p c =
       Lies program t.active.found on.active.out p (code_items t.active.found.first on.active.out on.active.mark c)
       s.active.rests
+
+  -- the step of a code whose items lie at the state's place is simulated, within what it may cost
+  abbrev pub DoesStep : (s : LowState) (t : VirtualState) → On program s t → Code → Type 0
+  DoesStep s t on c =
+      LiesOn s t on t.pc c → Sim (purse_of s c) s t (code_step program.reading program.low c s)
 
   abbrev pub ItemsOn : (s : LowState) (t : VirtualState) → On program s t → ℕ → List VirtualItem → Type 0
   ItemsOn s t on p xs = Lies program t.active.found on.active.out p xs s.active.rests

@@ -6,13 +6,13 @@ use Rattle.run_laws.specs.Machines.{Go}
 use Rattle.machine_words.specs.Memory.{Memory, load_bytes, store_bytes}
 use Rattle.machine_words.specs.Arithmetic.{plus}
 use Rattle.low_ir.specs.declared.code.WordOp.{WordOp}
-use Rattle.low_ir.specs.declared.code.WordOp.TheVariants.{Add, Sub, And, Or, Xor, Sll, Srl, Sra, Slt, Sltu}
+use Rattle.low_ir.specs.declared.code.WordOp.TheVariants.{Sll, Srl, Sra}
 use Rattle.low_ir.specs.Operations.{compute}
 use Rattle.low_ir.specs.Steps.{may_load, may_store}
 use Rattle.low_ir.specs.declared.code.LowSource.{LowSource}
 use Rattle.low_ir.specs.declared.code.LowSource.TheVariants.{Word, Number}
 use Rattle.low_ir.specs.Procedures.{Code, Set, Compute as LowCompute, Load as LowLoad, Store as LowStore}
-use Rattle.low_ir.specs.Run.{LowState, word_of, with_local, code_step}
+use Rattle.low_ir.specs.Run.{LowState, word_of, with_local}
 use Rattle.low_ir.specs.Prices.{source_price}
 use Rattle.rv_select.specs.declared.convention.TheConstants.{FIRST_SCRATCH, SECOND_SCRATCH}
 use Rattle.rv_select.specs.declared.code.VReg.TheVariants.{Virtual}
@@ -22,30 +22,26 @@ use Rattle.rv_select.specs.Run.{Found, VirtualState, fits_item, puts}
 use Rattle.rv_select.specs.Select.{put_item, is_small, number_of, second_items, compute_item, source_reg, source_items}
 use Rattle.rv_select.specs.Prices.{register_price, item_price}
 use Rattle.rv_select.proofs.Pricing.{own_slot, source_paid, put_paid}
+use Rattle.rv_select.proofs.Fetching.{first_is_scratch}
 use Rattle.rv_select.proofs.Fetching.{kept_fixed, fetches, fetches_ge, fetch, fetch_both}
 use Rattle.rv_select.proofs.Handing.{put_local}
 use Rattle.rv_select.proofs.Stretches.{does_item, write_local, given_is, only_is, beyond, fixed_self, prices}
 use Rattle.rv_select.proofs.Relation.{Program, On, setting, owed, Way, At, way_first, past, way_regs, body_regs, next}
 use Rattle.rv_select.proofs.Relation.{all_owed}
-use Rattle.rv_select.proofs.Stepping.{LiesOn, Sim, purse_of, sim_given, sim_if, popped, item_sets, mine, ItemsOn}
+use Rattle.rv_select.proofs.Stepping.{DoesStep}
+use Rattle.rv_select.proofs.Stepping.{Sim, purse_of, sim_given, sim_if, popped, item_sets, mine, ItemsOn}
 use Rattle.rv_select.proofs.Stepping.{items_of, active_same}
 
-with_few : (o : WordOp) (n : ℕ) → fits_item o n ≡ true → n < 2 ^ 64
-with_few Add n h = grind arith
-with_few Sub n h = grind arith
-with_few And n h = grind arith
-with_few Or n h = grind arith
-with_few Xor n h = grind arith
+-- a number that may stand in an item of an operation has 64 bits
+pub with_few : (o : WordOp) (n : ℕ) → fits_item o n ≡ true → n < 2 ^ 64
 with_few Sll n h = grind arith
 with_few Srl n h = grind arith
 with_few Sra n h = grind arith
-with_few Slt n h = grind arith
-with_few Sltu n h = grind arith
+with_few o n h = grind arith
 
 module _ {V : Type 0} (program : Program V) where
   pub do_set : (s : LowState) (t : VirtualState) (on : On program s t) (d : ℕ) (a : LowSource) (rest : Code)
-      → LiesOn program s t on t.pc (Set d a rest)
-      → Sim program (purse_of program s (Set d a rest)) s t (code_step program.reading program.low (Set d a rest) s)
+      → DoesStep program s t on (Set d a rest)
   do_set s t on d a rest lies =
       let f : Found = t.active.found in
       let purse : ℕ = purse_of program s (Set d a rest) in
@@ -82,9 +78,7 @@ module _ {V : Type 0} (program : Program V) where
 
   pub do_compute : (s : LowState) (t : VirtualState) (on : On program s t) (op : WordOp)
       (d : ℕ) (a b : LowSource) (rest : Code)
-      → LiesOn program s t on t.pc (LowCompute op d a b rest)
-      → Sim program (purse_of program s (LowCompute op d a b rest)) s t (code_step program.reading program.low
-      (LowCompute op d a b rest) s)
+      → DoesStep program s t on (LowCompute op d a b rest)
   do_compute s t on op d a b rest lies =
       sim_given program purse s s t (word_of s.active.locals a) _ (λ x ae.
       sim_given program purse s s t (word_of s.active.locals b) _ (λ y be.
@@ -133,7 +127,7 @@ module _ {V : Type 0} (program : Program V) where
                 (item_price (setting program) f item + owed s.waiting) in
                 let q = own_slot first d in omega (arith, p, q)),
             fetch program.reading (setting program) (Way program s s1) (At program s1) s.active.locals FIRST_SCRATCH
-                (refl, refl, refl, refl) a x t (item
+                first_is_scratch a x t (item
                 ∷ items_of program s t on rest) 1
                 (item_price (setting program) f item + owed s.waiting) ae on.active.locals there.stands
                 (way_first program s s1 t on.body)
@@ -179,9 +173,7 @@ module _ {V : Type 0} (program : Program V) where
 
   pub do_load : (s : LowState) (t : VirtualState) (on : On program s t) (d : ℕ)
       (a : LowSource) (offset : ℕ) (rest : Code)
-      → LiesOn program s t on t.pc (LowLoad d a offset rest)
-      → Sim program (purse_of program s (LowLoad d a offset rest)) s t (code_step program.reading program.low
-      (LowLoad d a offset rest) s)
+      → DoesStep program s t on (LowLoad d a offset rest)
   do_load s t on d a offset rest lies =
       let purse : ℕ = purse_of program s (LowLoad d a offset rest) in
       let f : Found = t.active.found in
@@ -201,7 +193,7 @@ module _ {V : Type 0} (program : Program V) where
         (let p = source_paid (setting program) f FIRST_SCRATCH a left in let q = own_slot first d in omega
             (arith, p, q)),
         fetch program.reading (setting program) (Way program s s1) (At program s1) s.active.locals FIRST_SCRATCH
-            (refl, refl, refl, refl) a x t (item
+            first_is_scratch a x t (item
             ∷ items_of program s t on rest) 1 left ae on.active.locals lies.stands (way_first program s s1 t on.body)
             (λ regs known kept va.
             item_sets program s t on rest d word regs known pc item (kept_fixed kept refl refl refl)
@@ -216,9 +208,7 @@ module _ {V : Type 0} (program : Program V) where
       ))))
 
   pub do_store : (s : LowState) (t : VirtualState) (on : On program s t) (b a : LowSource) (offset : ℕ) (rest : Code)
-      → LiesOn program s t on t.pc (LowStore b a offset rest)
-      → Sim program (purse_of program s (LowStore b a offset rest)) s t (code_step program.reading program.low
-      (LowStore b a offset rest) s)
+      → DoesStep program s t on (LowStore b a offset rest)
   do_store s t on b a offset rest lies =
       let purse : ℕ = purse_of program s (LowStore b a offset rest) in
       let f : Found = t.active.found in

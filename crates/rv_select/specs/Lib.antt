@@ -6,6 +6,7 @@ pub mod Marks
 pub mod WellFormed
 pub mod Sizes
 pub mod Select
+pub mod Stepwise
 pub mod Selected
 pub mod CodeSizes
 pub mod Prices

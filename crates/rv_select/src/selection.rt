@@ -1,11 +1,13 @@
 // The code of a program over words.
 
-ghost use Rattle.std.specs.Prelude.{◌≡◌, ◌+◌, ◌++◌, OnOk, IfOk, IsTrue};
+ghost use Rattle.std.specs.Prelude.{◌≡◌, ◌<◌, ◌+◌, ◌++◌, None, Some, OnOk, IfOk, IfSome, IsTrue, MatchOption};
+ghost use Rattle.low_ir.specs.declared.code.LowCode.{size-LowCode};
 ghost use Rattle.low_ir.specs.Views.{code_of, proc_of, procs_of};
 ghost use Rattle.low_ir.specs.Closed.{is_closed};
 ghost use Rattle.rv_select.specs.Selected.{IsCodeOf};
 ghost use Rattle.rv_select.specs.Sizes.{HasSmallNumbers, IsSmall};
 ghost use Rattle.rv_select.specs.Select.{code_items, marks_in, proc_items};
+ghost use Rattle.rv_select.specs.Stepwise.{step_items, later};
 
 use crate::code::{VirtualCode, VirtualItem, VirtualItems};
 use crate::parts::{
@@ -33,6 +35,66 @@ fn fresh(marks: &mut u32) -> Result<u32, OutOfMemory>
     }
 }
 
+// Adds the items of the first step of a code, told the first register of its procedure and the mark behind which there
+// is no room; none for a branch and for a code address, which `put_code` puts.
+fn put_step(
+    items: &mut VirtualItems,
+    first: u32,
+    out: u32,
+    code: &LowCode,
+) -> Result<(), OutOfMemory>
+    requires { HasSmallNumbers (code_of code.now) }
+    ensures { OnOk result (items.new ≡ items.old ++ step_items first out (code_of code.now)) }
+{
+    match code {
+        LowCode::Done | LowCode::CodeOf(..) | LowCode::If(..) => Ok(()),
+        LowCode::Set(d, a, _) => items.push(put_item(first, local(first, *d)?, *a)?),
+        LowCode::Compute(op, d, a, b, _) => put_compute(items, first, *op, *d, *a, *b),
+        LowCode::Load(d, a, offset, _) => put_load(items, first, *d, *a, *offset),
+        LowCode::Store(b, a, offset, _) => put_store(items, first, *b, *a, *offset),
+        LowCode::Build(d, args, _) => put_build(items, first, out, *d, args),
+        LowCode::Request(d, a, _) => put_request(items, first, out, *d, *a),
+        LowCode::Take(a, _) => put_take(items, first, *a),
+        LowCode::Environment(number, a, b, d, e, _) => {
+            put_environment(items, first, *number, (*a, *b), (*d, *e))
+        }
+        LowCode::Call(d, k, args, _) => put_call(items, first, *d, *k, args),
+        LowCode::CallAt(d, f, args, _) => put_call_at(items, first, *d, *f, args),
+        LowCode::Return(a) => put_return(items, first, *a),
+        LowCode::TailCall(k, args) => {
+            put_args(items, first, args)?;
+            items.push(VirtualItem::TailCall(*k, args.len() as u32))
+        }
+        LowCode::TailCallAt(f, args) => put_tail_call_at(items, first, *f, args),
+    }
+}
+
+// What a code does behind such a step; none where that is the last, and for a branch and a code address.
+fn later(code: &LowCode) -> Option<&LowCode>
+    ensures later { MatchOption result (later (code_of code.now) ≡ None)
+        (λ rest. later (code_of code.now) ≡ Some (code_of rest.now)) }
+    ensures smaller { IfSome result (λ rest. size-LowCode rest.now < size-LowCode code.now) }
+{
+    match code {
+        LowCode::Set(_, _, rest) => Some(rest),
+        LowCode::Compute(_, _, _, _, rest) => Some(rest),
+        LowCode::Load(_, _, _, rest) => Some(rest),
+        LowCode::Store(_, _, _, rest) => Some(rest),
+        LowCode::Build(_, _, rest) => Some(rest),
+        LowCode::Request(_, _, rest) => Some(rest),
+        LowCode::Take(_, rest) => Some(rest),
+        LowCode::Environment(_, _, _, _, _, rest) => Some(rest),
+        LowCode::Call(_, _, _, rest) => Some(rest),
+        LowCode::CallAt(_, _, _, rest) => Some(rest),
+        LowCode::Done
+        | LowCode::CodeOf(..)
+        | LowCode::If(..)
+        | LowCode::Return(..)
+        | LowCode::TailCall(..)
+        | LowCode::TailCallAt(..) => None,
+    }
+}
+
 // Adds the items of a code, told the first register of its procedure and the mark behind which there is no room. A
 // recursion into branches alone.
 fn put_code(
@@ -49,49 +111,8 @@ fn put_code(
     let mut left = code;
     loop {
         match left {
-            LowCode::Done => return Ok(()),
-            LowCode::Set(d, a, rest) => {
-                items.push(put_item(first, local(first, *d)?, *a)?)?;
-                left = rest;
-            }
-            LowCode::Compute(op, d, a, b, rest) => {
-                put_compute(items, first, *op, *d, *a, *b)?;
-                left = rest;
-            }
-            LowCode::Load(d, a, offset, rest) => {
-                put_load(items, first, *d, *a, *offset)?;
-                left = rest;
-            }
-            LowCode::Store(b, a, offset, rest) => {
-                put_store(items, first, *b, *a, *offset)?;
-                left = rest;
-            }
             LowCode::CodeOf(d, k, rest) => {
                 items.push(VirtualItem::CodeOf(local(first, *d)?, *k))?;
-                left = rest;
-            }
-            LowCode::Build(d, args, rest) => {
-                put_build(items, first, out, *d, args)?;
-                left = rest;
-            }
-            LowCode::Request(d, a, rest) => {
-                put_request(items, first, out, *d, *a)?;
-                left = rest;
-            }
-            LowCode::Take(a, rest) => {
-                put_take(items, first, *a)?;
-                left = rest;
-            }
-            LowCode::Environment(number, a, b, d, e, rest) => {
-                put_environment(items, first, *number, (*a, *b), (*d, *e))?;
-                left = rest;
-            }
-            LowCode::Call(d, k, args, rest) => {
-                put_call(items, first, *d, *k, args)?;
-                left = rest;
-            }
-            LowCode::CallAt(d, f, args, rest) => {
-                put_call_at(items, first, *d, *f, args)?;
                 left = rest;
             }
             LowCode::If(cond, a, b, one, other, rest) => {
@@ -105,12 +126,13 @@ fn put_code(
                 items.push(VirtualItem::Mark(at_end))?;
                 left = rest;
             }
-            LowCode::Return(a) => return put_return(items, first, *a),
-            LowCode::TailCall(k, args) => {
-                put_args(items, first, args)?;
-                return items.push(VirtualItem::TailCall(*k, args.len() as u32));
+            _ => {
+                put_step(items, first, out, left)?;
+                let Some(rest) = later(left) else {
+                    return Ok(());
+                };
+                left = rest;
             }
-            LowCode::TailCallAt(f, args) => return put_tail_call_at(items, first, *f, args),
         }
     }
 }

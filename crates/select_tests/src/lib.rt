@@ -3,22 +3,4 @@
 #![tactic(auto)]
 
 #[cfg(test)]
-mod arithmetic;
-#[cfg(test)]
-mod calls;
-#[cfg(test)]
-mod closed;
-#[cfg(test)]
-mod machines;
-#[cfg(test)]
-mod programs;
-#[cfg(test)]
-mod proxies;
-#[cfg(test)]
-mod selections;
-#[cfg(test)]
-mod sizes;
-#[cfg(test)]
-mod storage;
-#[cfg(test)]
-mod walks;
+mod tests;

@@ -3,12 +3,4 @@
 #![tactic(auto)]
 
 #[cfg(test)]
-mod ends;
-#[cfg(test)]
-mod rows;
-#[cfg(test)]
-mod samples;
-#[cfg(test)]
-mod terms;
-#[cfg(test)]
-mod walks;
+mod tests;

@@ -21,7 +21,7 @@ use Rattle.surface_syntax.specs.Pass.{Parsing, ParsedRange, then_with, paired, p
 use Rattle.surface_syntax.specs.Pass.{parse_binding, parse_member, parse_lambda_form, parse_range}
 use Rattle.surface_syntax.specs.Parts.{parse_behind}
 use Rattle.surface_syntax.specs.Forms.{parse_operands, applied_to, headed_of, lambda_from}
-use Rattle.surface_syntax.specs.Forms.{body_from, behind_from, function_from, binding_from, member_from}
+use Rattle.surface_syntax.specs.Forms.{body_from, behind_from, function_from, bound_from}
 use Rattle.surface_syntax.specs.Forms.{range_from, counted_of, gathered_of, repeat_behind}
 use Rattle.surface_syntax.specs.Claims.{Answers, Parses}
 use Rattle.surface_syntax.proofs.Steps.{reserved_is}
@@ -29,13 +29,13 @@ use Rattle.surface_syntax.proofs.FormRows.{lambda_lacks, lambda_has}
 
 -- ---- lines without fresh names, one after another
 
--- what is read, in another form
-plain_as : {A B C : Type 0} (w : Walked A) (f : A → B) (next : B → Parsing C) (names : ℕ)
-    → then_with (paired w names) (λ a names. next (f a) names)
-    ≡ then_with (paired (followed_by w (λ a. Reads (f a))) names) next
+-- what is read, in another form, and that in another
+plain_as : {A B C D : Type 0} (w : Walked A) (f : A → B) (g : B → C) (next : C → Parsing D) (names : ℕ)
+    → then_with (paired w names) (λ a names. next (g (f a)) names)
+    ≡ then_with (paired (followed_by (followed_by w (λ a. Reads (f a))) (λ b. Reads (g b))) names) next
 unfolding then_with paired followed_by
-plain_as (Reads a) f next names = refl
-plain_as (Refuses kind p) f next names = refl
+plain_as (Reads a) f g next names = refl
+plain_as (Refuses kind p) f g next names = refl
 
 -- the last line
 plain_last : {A B C : Type 0} (first : Walked (A × ℕ)) (w : Walked C) (f : A → C → B)
@@ -55,17 +55,17 @@ plain_test true p a next names = refl
 plain_test false p a next names = refl
 
 -- a name and its written type
-plain_typed : {A : Type 0} (x : Walked (List ℕ)) (c : Walked Bool) (t : Walked TypeExpr)
-    (next : List ℕ × Option TypeExpr → Parsing A) (names : ℕ)
+plain_typed : {A B : Type 0} (x : Walked (List ℕ)) (c : Walked Bool) (t : Walked TypeExpr)
+    (g : List ℕ × Option TypeExpr → B) (next : B → Parsing A) (names : ℕ)
     → then_with (paired x names) (λ bytes names. then_with (paired c names) (λ done names.
-    then_with (paired t names) (λ type names. next (bytes, Some type) names)))
-    ≡ then_with (paired (followed_by x (λ bytes. followed_by (followed_by c (λ done. followed_by t (λ type.
-    Reads (Some type)))) (λ type. Reads (bytes, type)))) names) next
+    then_with (paired t names) (λ type names. next (g (bytes, Some type)) names)))
+    ≡ then_with (paired (followed_by (followed_by x (λ bytes. followed_by (followed_by c (λ done. followed_by t
+    (λ type. Reads (Some type)))) (λ type. Reads (bytes, type)))) (λ known. Reads (g known))) names) next
 unfolding then_with paired followed_by
-plain_typed (Refuses kind p) c t next names = refl
-plain_typed (Reads x) (Refuses kind p) t next names = refl
-plain_typed (Reads x) (Reads c) (Refuses kind p) next names = refl
-plain_typed (Reads x) (Reads c) (Reads t) next names = refl
+plain_typed (Refuses kind p) c t g next names = refl
+plain_typed (Reads x) (Refuses kind p) t g next names = refl
+plain_typed (Reads x) (Reads c) (Refuses kind p) g next names = refl
+plain_typed (Reads x) (Reads c) (Reads t) g next names = refl
 
 -- ---- lambdas
 
@@ -151,26 +151,46 @@ list_row p s rest w names e f =
 
 -- ---- names that are bound
 
--- a name, and what is read of its value
-abbrev valued : {A : Type 0} → Parsing A → List ℕ × Option TypeExpr → Parsing (Bound A)
-valued value known names =
-    then_with (value names) (λ value names. Reads (record { name = known.0; written = known.1; value = value }, names))
+-- what is read of what is bound to a name
+abbrev valued : {A : Type 0} → (Sexpr → Parsing A) → (List ℕ × Option TypeExpr) × Sexpr → Parsing (Bound A)
+valued read bound names =
+    then_with (read bound.1 names) (λ value names. Reads (
+      record {
+        name = bound.0.0;
+        written = bound.0.1;
+        value = value;
+      },
+      names,
+    ))
+
+-- without a written type, and with one
+bare_row : {A : Type 0} (read : Sexpr → Parsing A) (seen : List (List ℕ)) (r : Pos) (x e : Sexpr) (names : ℕ)
+    → then_with (paired (binder seen x) names) (λ bytes. valued read ((bytes, None), e))
+    ≡ bound_from read seen (list r (x ▹ e ▹ end)) names
+unfolding then_with paired followed_by
+bare_row read seen r x e names =
+    plain_as (binder seen x) (λ name. (name, None)) (λ known. (known, e)) (valued read) names
+
+typed_row : {A : Type 0} (read : Sexpr → Parsing A) (seen : List (List ℕ)) (r : Pos) (x c t e : Sexpr) (names : ℕ)
+    → then_with (paired (binder seen x) names) (λ bytes names. then_with (paired (colon c) names) (λ done names.
+    then_with (paired (walk_type t) names) (λ type. valued read ((bytes, Some type), e))))
+    ≡ bound_from read seen (list r (x ▹ c ▹ t ▹ e ▹ end)) names
+unfolding then_with paired followed_by
+typed_row read seen r x c t e names =
+    plain_typed (binder seen x) (colon c) (walk_type t) (λ known. (known, e)) (valued read) names
 
 pub binding_row : (seen : List (List ℕ)) (s : Sexpr) (names : ℕ)
-    → parse_binding seen s names ≡ binding_from seen s names
+    → parse_binding seen s names ≡ bound_from parse seen s names
 unfolding then_with paired followed_by
-binding_row seen (list r (x ▹ e ▹ end)) names = plain_as (binder seen x) (λ name. (name, None)) (valued (parse e)) names
-binding_row seen (list r (x ▹ c ▹ t ▹ e ▹ end)) names =
-    plain_typed (binder seen x) (colon c) (walk_type t) (valued (parse e)) names
+binding_row seen (list r (x ▹ e ▹ end)) names = bare_row parse seen r x e names
+binding_row seen (list r (x ▹ c ▹ t ▹ e ▹ end)) names = typed_row parse seen r x c t e names
 binding_row seen s names = refl
 
 pub member_row : (seen : List (List ℕ)) (s : Sexpr) (names : ℕ)
-    → parse_member seen s names ≡ member_from seen s names
+    → parse_member seen s names ≡ bound_from parse_lambda_form seen s names
 unfolding then_with paired followed_by
-member_row seen (list r (x ▹ e ▹ end)) names =
-    plain_as (binder seen x) (λ name. (name, None)) (valued (parse_lambda_form e)) names
-member_row seen (list r (x ▹ c ▹ t ▹ e ▹ end)) names =
-    plain_typed (binder seen x) (colon c) (walk_type t) (valued (parse_lambda_form e)) names
+member_row seen (list r (x ▹ e ▹ end)) names = bare_row parse_lambda_form seen r x e names
+member_row seen (list r (x ▹ c ▹ t ▹ e ▹ end)) names = typed_row parse_lambda_form seen r x c t e names
 member_row seen s names = refl
 
 -- ---- the head of a `repeat`

@@ -1,14 +1,13 @@
 -- Lists that are read element by element: those that are done, and what is read behind them.
 use Rattle.std.proofs.Common.{◌≡◌, ℕ, List, [], ◌∷◌, ◌++◌, refl, sym, ap, subst, ◌∙◌}
-use Rattle.std.specs.Prelude.{Result, Err, IsErrAnd}
+use Rattle.std.specs.Prelude.{Option, Result, Err, IsErrAnd}
 use Rattle.grift_base.specs.declared.refusals.FrontFault.{FrontFault}
 use Rattle.grift_base.specs.declared.refusals.FrontFault.TheVariants.{Refused, OutOfMemory}
+use Rattle.surface_trees.specs.declared.names.Ident.{Ident}
 use Rattle.surface_trees.specs.declared.names.Ident.TheVariants.{Source}
 use Rattle.surface_trees.specs.declared.exprs.Expr.{Expr as RustExpr}
-use Rattle.surface_trees.specs.declared.exprs.Binding.{Binding as RustBinding}
-use Rattle.surface_trees.specs.declared.exprs.Member.{Member as RustMember}
 use Rattle.surface_syntax.specs.Marked.{Sexpr, Sexprs, ◌▹◌}
-use Rattle.surface_trees.specs.Trees.{Expr, LambdaExpr, Exprs, ExprThen, LetBindings, LetThen, LetrecMembers}
+use Rattle.surface_trees.specs.Trees.{TypeExpr, Exprs, ExprThen, LetThen}
 use Rattle.surface_trees.specs.Trees.{LetrecThen}
 use Rattle.surface_syntax.specs.Walking.{Walked, Reads, Refuses}
 use Rattle.surface_syntax.specs.Walk.{Bound}
@@ -16,8 +15,7 @@ use Rattle.surface_syntax.specs.Pass.{Parsing, then_with, parse, parse_each, par
 use Rattle.surface_syntax.specs.Pass.{parse_letrecs}
 use Rattle.surface_trees.specs.Views.{expr_of, source_of}
 use Rattle.surface_syntax.specs.Parts.{exprs_before, lets_before, letrecs_before, name_of_binding, type_of_binding}
-use Rattle.surface_syntax.specs.Parts.{value_of_binding, bound_of, name_of_member, type_of_member, fun_of_member}
-use Rattle.surface_syntax.specs.Parts.{member_of}
+use Rattle.surface_syntax.specs.Parts.{value_of_binding, name_of_member, type_of_member, fun_of_member}
 use Rattle.surface_syntax.specs.Claims.{Parses}
 use Rattle.surface_syntax.proofs.Binds.{stopped, went_out}
 use Rattle.surface_syntax.proofs.FormRows.{stops}
@@ -38,9 +36,9 @@ with_same f g (Reads done) h = ap (λ b. Reads (b, done.1)) (h done.0)
 with_same f g (Refuses kind p) h = refl
 
 -- what `put` puts in front one after another stands in front of the rest
-record Before {R L : Type 0} (put : R → L → L) (before : List R → L → L) : Type 0 where
-  none : (rest : L) → before [] rest ≡ rest
-  more : (x : R) (xs : List R) (rest : L) → before (x ∷ xs) rest ≡ put x (before xs rest)
+pub record Before {R L : Type 0} (put : R → L → L) (before : List R → L → L) : Type 0 where
+  pub none : (rest : L) → before [] rest ≡ rest
+  pub more : (x : R) (xs : List R) (rest : L) → before (x ∷ xs) rest ≡ put x (before xs rest)
 
 pushed : {R L : Type 0} (put : R → L → L) (before : List R → L → L) → Before put before → (xs : List R) (x : R)
     (rest : L) → before (xs ++ x ∷ []) rest ≡ before xs (put x rest)
@@ -126,87 +124,69 @@ each_exit es s rest names next wider fault given result w e f h same =
     (λ exprs names. Reads (ExprThen expr exprs, names)))
     expr_of wider next fault given result w e f h same
 
--- ---- bindings
+-- ---- bindings and members, of which each binds a name in a scope
 
-abbrev put_binding : RustBinding → LetBindings → LetBindings
-put_binding b rest = LetThen (name_of_binding b) (type_of_binding b) (value_of_binding b) rest
+-- how they are read, and how they stand in front of one another
+pub record BindsNames {R L A : Type 0} (make : Ident → Option TypeExpr → A → L → L) (name : R → Ident)
+    (written : R → Option TypeExpr) (value : R → A) (before : List R → L → L)
+    (read : List (List ℕ) → Sexpr → Parsing (Bound A)) (all : List (List ℕ) → Sexprs → Parsing L) : Type 0 where
+  pub stand : Before (λ x. make (name x) (written x) (value x)) before
+  pub first : (seen : List (List ℕ)) (s : Sexpr) (rest : Sexprs) (names : ℕ) → all seen (s ▹ rest) names
+      ≡ then_with (read seen s names) (λ one names. then_with (all (seen ++ one.name ∷ []) rest names)
+      (λ others names. Reads (make (Source one.name) one.written one.value others, names)))
 
-bindings_stand : Before put_binding lets_before
-bindings_stand = record { none = λ rest. refl; more = λ b bs rest. refl }
+pub lets_bind : BindsNames LetThen name_of_binding type_of_binding value_of_binding lets_before parse_binding parse_lets
+lets_bind = record {
+  stand = record { none = λ rest. refl; more = λ b bs rest. refl };
+  first = λ seen s rest names. refl;
+}
 
-pub lets_pop : (all bs : List RustBinding) (b : RustBinding) (rest : LetBindings) → all ≡ bs ++ b ∷ []
-    → lets_before bs (LetThen (name_of_binding b) (type_of_binding b) (value_of_binding b) rest)
-    ≡ lets_before all rest
-lets_pop all bs b rest same = popped put_binding lets_before bindings_stand all bs b rest same
+pub letrecs_bind : BindsNames LetrecThen name_of_member type_of_member fun_of_member letrecs_before parse_member
+    parse_letrecs
+letrecs_bind = record {
+  stand = record { none = λ rest. refl; more = λ m ms rest. refl };
+  first = λ seen s rest names. refl;
+}
 
-abbrev pub behind_lets : List RustBinding → Walked (LetBindings × ℕ) → Walked (LetBindings × ℕ)
-behind_lets bs w = with_list (lets_before bs) w
+pub bound_pop : {R L A : Type 0} {make : Ident → Option TypeExpr → A → L → L} {name : R → Ident}
+    {written : R → Option TypeExpr} {value : R → A} {before : List R → L → L}
+    {read : List (List ℕ) → Sexpr → Parsing (Bound A)} {all : List (List ℕ) → Sexprs → Parsing L}
+    → BindsNames make name written value before read all → (whole xs : List R) (x : R) (rest : L)
+    → whole ≡ xs ++ x ∷ [] → before xs (make (name x) (written x) (value x) rest) ≡ before whole rest
+bound_pop {make = make} {name = name} {written = written} {value = value} {before = before} h whole xs x rest same =
+    popped (λ x. make (name x) (written x) (value x)) before h.stand whole xs x rest same
 
--- a binding that was read, and those that are read behind it
-abbrev then_let : Bound Expr → LetBindings → LetBindings
-then_let one others = LetThen (Source one.name) one.written one.value others
+-- one that was read, and those that are read behind it
+pub bound_more : {R L A : Type 0} {make : Ident → Option TypeExpr → A → L → L} {name : R → Ident}
+    {written : R → Option TypeExpr} {value : R → A} {before : List R → L → L}
+    {read : List (List ℕ) → Sexpr → Parsing (Bound A)} {all : List (List ℕ) → Sexprs → Parsing L}
+    → BindsNames make name written value before read all → (xs : List R) (x : R) (s : Sexpr) (rest : Sexprs)
+    (seen bound : List (List ℕ)) (names next : ℕ) (w : Walked (L × ℕ))
+    → read seen s names ≡ Reads (record { name = source_of (name x); written = written x; value = value x }, next)
+    → bound ≡ seen ++ source_of (name x) ∷ [] → name x ≡ Source (source_of (name x))
+    → with_list (before xs) (all seen (s ▹ rest) names) ≡ w
+    → with_list (before (xs ++ x ∷ [])) (all bound rest next) ≡ w
+bound_more {A = A} {make = make} {name = name} {written = written} {value = value} {before = before} {read = read}
+    {all = all} h xs x s rest seen bound names next w e k source same =
+    ap (λ scope. with_list (before (xs ++ x ∷ [])) (all scope rest next)) k
+    ∙ one_more (λ x. make (name x) (written x) (value x)) before h.stand xs x (read seen s names)
+    (λ one. all (seen ++ one.name ∷ []) rest) (λ (one : Bound A). make (Source one.name) one.written one.value)
+    (record { name = source_of (name x); written = written x; value = value x }) next w e
+    (λ others. ap (λ i. make i (written x) (value x) others) source)
+    (ap (with_list (before xs)) (sym (h.first seen s rest names)) ∙ same)
 
-pub lets_more : (bs : List RustBinding) (b : RustBinding) (s : Sexpr) (rest : Sexprs) (seen bound : List (List ℕ))
-    (names next : ℕ)
-    (w : Walked (LetBindings × ℕ))
-    → parse_binding seen s names ≡ Reads (bound_of b, next) → bound ≡ seen ++ source_of (name_of_binding b) ∷ []
-    → name_of_binding b ≡ Source (source_of (name_of_binding b)) → behind_lets bs (parse_lets seen (s ▹ rest) names) ≡ w
-    → behind_lets (bs ++ b ∷ []) (parse_lets bound rest next) ≡ w
-lets_more bs b s rest seen bound names next w h k source same =
-    ap (λ s. behind_lets (bs ++ b ∷ []) (parse_lets s rest next)) k
-    ∙ one_more put_binding lets_before bindings_stand bs b (parse_binding seen s names)
-    (λ one. parse_lets (seen ++ one.name ∷ []) rest) then_let (bound_of b) next w h
-    (λ others. ap (λ x. LetThen x (type_of_binding b) (value_of_binding b) others) source) same
-
-pub lets_exit : {S : Type 0} (bs : List RustBinding) (s : Sexpr) (rest : Sexprs) (seen : List (List ℕ)) (names next : ℕ)
-    (wider : S → LetBindings) (fault : FrontFault) (given : Result RustBinding FrontFault)
-    (result : Result S FrontFault) (w : Walked (LetBindings × ℕ))
-    → given ≡ Err fault → IsErrAnd result (λ f. f ≡ fault) → Parses given bound_of next (parse_binding seen s names)
-    → behind_lets bs (parse_lets seen (s ▹ rest) names) ≡ w → Parses result wider next w
-lets_exit bs s rest seen names next wider fault given result w e f h same =
-    loop_exit (lets_before bs) (parse_binding seen s names) (λ one names. then_with
-    (parse_lets (seen ++ one.name ∷ []) rest names) (λ others names. Reads (then_let one others, names)))
-    bound_of wider next fault given result w e f h same
-
--- ---- members
-
-abbrev put_member : RustMember → LetrecMembers → LetrecMembers
-put_member b rest = LetrecThen (name_of_member b) (type_of_member b) (fun_of_member b) rest
-
-members_stand : Before put_member letrecs_before
-members_stand = record { none = λ rest. refl; more = λ b bs rest. refl }
-
-pub letrecs_pop : (all bs : List RustMember) (b : RustMember) (rest : LetrecMembers) → all ≡ bs ++ b ∷ []
-    → letrecs_before bs (LetrecThen (name_of_member b) (type_of_member b) (fun_of_member b) rest)
-    ≡ letrecs_before all rest
-letrecs_pop all bs b rest same = popped put_member letrecs_before members_stand all bs b rest same
-
-abbrev pub behind_letrecs : List RustMember → Walked (LetrecMembers × ℕ) → Walked (LetrecMembers × ℕ)
-behind_letrecs bs w = with_list (letrecs_before bs) w
-
--- a member that was read, and those that are read behind it
-abbrev then_letrec : Bound LambdaExpr → LetrecMembers → LetrecMembers
-then_letrec one others = LetrecThen (Source one.name) one.written one.value others
-
-pub letrecs_more : (bs : List RustMember) (b : RustMember) (s : Sexpr) (rest : Sexprs) (seen bound : List (List ℕ))
-    (names next : ℕ)
-    (w : Walked (LetrecMembers × ℕ))
-    → parse_member seen s names ≡ Reads (member_of b, next) → bound ≡ seen ++ source_of (name_of_member b) ∷ []
-    → name_of_member b ≡ Source (source_of (name_of_member b))
-    → behind_letrecs bs (parse_letrecs seen (s ▹ rest) names) ≡ w
-    → behind_letrecs (bs ++ b ∷ []) (parse_letrecs bound rest next) ≡ w
-letrecs_more bs b s rest seen bound names next w h k source same =
-    ap (λ s. behind_letrecs (bs ++ b ∷ []) (parse_letrecs s rest next)) k
-    ∙ one_more put_member letrecs_before members_stand bs b (parse_member seen s names)
-    (λ one. parse_letrecs (seen ++ one.name ∷ []) rest) then_letrec (member_of b) next w h
-    (λ others. ap (λ x. LetrecThen x (type_of_member b) (fun_of_member b) others) source) same
-
-pub letrecs_exit : {S : Type 0} (bs : List RustMember) (s : Sexpr) (rest : Sexprs) (seen : List (List ℕ))
-    (names next : ℕ) (wider : S → LetrecMembers) (fault : FrontFault) (given : Result RustMember FrontFault)
-    (result : Result S FrontFault) (w : Walked (LetrecMembers × ℕ))
-    → given ≡ Err fault → IsErrAnd result (λ f. f ≡ fault) → Parses given member_of next (parse_member seen s names)
-    → behind_letrecs bs (parse_letrecs seen (s ▹ rest) names) ≡ w → Parses result wider next w
-letrecs_exit bs s rest seen names next wider fault given result w e f h same =
-    loop_exit (letrecs_before bs) (parse_member seen s names) (λ one names. then_with
-    (parse_letrecs (seen ++ one.name ∷ []) rest names) (λ others names. Reads (then_letrec one others, names)))
-    member_of wider next fault given result w e f h same
+-- the exit of a `?` at one of them
+pub bound_exit : {R L A S : Type 0} {make : Ident → Option TypeExpr → A → L → L} {name : R → Ident}
+    {written : R → Option TypeExpr} {value : R → A} {before : List R → L → L}
+    {read : List (List ℕ) → Sexpr → Parsing (Bound A)} {all : List (List ℕ) → Sexprs → Parsing L}
+    → BindsNames make name written value before read all → (xs : List R) (s : Sexpr) (rest : Sexprs)
+    (seen : List (List ℕ)) (names next : ℕ) (view : R → Bound A) (wider : S → L) (fault : FrontFault)
+    (given : Result R FrontFault) (result : Result S FrontFault) (w : Walked (L × ℕ))
+    → given ≡ Err fault → IsErrAnd result (λ f. f ≡ fault) → Parses given view next (read seen s names)
+    → with_list (before xs) (all seen (s ▹ rest) names) ≡ w → Parses result wider next w
+bound_exit {make = make} {before = before} {read = read} {all = all} h xs s rest seen names next view wider fault given
+    result w e f k same =
+    loop_exit (before xs) (read seen s names) (λ one names. then_with (all (seen ++ one.name ∷ []) rest names)
+    (λ others names. Reads (make (Source one.name) one.written one.value others, names)))
+    view wider next fault given result w e f k
+    (ap (with_list (before xs)) (sym (h.first seen s rest names)) ∙ same)

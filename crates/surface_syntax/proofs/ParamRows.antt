@@ -1,5 +1,5 @@
 -- The rows of the walk over parameters, by what is known of their elements.
-use Rattle.std.proofs.Common.{◌≡◌, ◌≢◌, ◌-◌, ◌++◌, ℕ, zero, suc, List, [], ◌∷◌}
+use Rattle.std.proofs.Common.{◌≡◌, ◌≢◌, ◌-◌, ◌++◌, ℕ, zero, suc, Bool, List, [], ◌∷◌, Some}
 use Rattle.std.proofs.Common.{refl, ap, ◌∙◌, sym, subst, arith, append_assoc}
 use Rattle.std.specs.Prelude.{Result, Err, IsErrAnd}
 use Rattle.grift_base.specs.declared.places.Pos.{Pos}
@@ -10,10 +10,13 @@ use Rattle.grift_base.specs.declared.refusals.FrontFault.TheVariants.{Refused, O
 use Rattle.surface_syntax.specs.declared.words.Mark.{Mark}
 use Rattle.surface_syntax.specs.declared.words.Mark.TheVariants.{Reserved, Free}
 use Rattle.surface_trees.specs.declared.types.Param.{Param as RustParam}
-use Rattle.surface_syntax.specs.Marked.{Sexpr, Sexprs, ◌▹◌, place, marked_symbol}
-use Rattle.surface_trees.specs.Trees.{Param}
-use Rattle.surface_syntax.specs.Walking.{Walked, Reads, Refuses, followed_by}
-use Rattle.surface_syntax.specs.Walk.{plain_param, walk_param, walk_params, walk_param_list}
+use Rattle.surface_trees.specs.declared.names.Ident.TheVariants.{Source}
+use Rattle.surface_syntax.specs.Marked.{Sexpr, Sexprs, list, end, ◌▹◌, place, marked_symbol}
+use Rattle.surface_trees.specs.Trees.{Param, TypeExpr}
+use Rattle.surface_syntax.specs.Walking.{Walked, Reads, Refuses, followed_by, binder, colon}
+use Rattle.surface_syntax.specs.Walk.{plain_param, walk_param, walk_params, walk_param_list, walk_type}
+use Rattle.surface_syntax.specs.Elements.{three_of}
+use Rattle.surface_syntax.specs.Parts.{typed_name}
 use Rattle.surface_trees.specs.Views.{source_of, param_of, params_of, named_param_of}
 use Rattle.surface_syntax.specs.Claims.{Answers}
 use Rattle.surface_syntax.proofs.Binds.{stopped, went_out}
@@ -23,6 +26,31 @@ pub symbol_param : (seen : List (List ℕ)) (p : Pos) (x : List ℕ) (m : Mark)
     → walk_param seen (marked_symbol p x m) ≡ plain_param seen (marked_symbol p x m)
 symbol_param seen p x (Reserved w) = refl
 symbol_param seen p x (Free t) = refl
+
+-- a parameter between brackets with this name and this type
+abbrev pub param_at : Pos → List ℕ × TypeExpr → List ℕ × Param
+param_at p typed = (typed.0, record { place = p; name = Source typed.0; written = Some typed.1 })
+
+-- such a parameter is three elements, which are a name with its type
+pub typed_row : (seen : List (List ℕ)) (p : Pos) (ds : Sexprs) → walk_param seen (list p ds)
+    ≡ followed_by (three_of p ds) (λ three. followed_by (typed_name seen three.first three.second three.third)
+    (λ typed. Reads (param_at p typed)))
+unfolding followed_by
+typed_row seen p end = refl
+typed_row seen p (x ▹ end) = refl
+typed_row seen p (x ▹ c ▹ end) = refl
+typed_row seen p (x ▹ c ▹ t ▹ end) = in_turn (binder seen x) (colon c) (walk_type t)
+  where
+    in_turn : (named : Walked (List ℕ)) (done : Walked Bool) (type : Walked TypeExpr)
+        → followed_by named (λ bytes. followed_by done (λ done. followed_by type
+        (λ type. Reads (param_at p (bytes, type)))))
+        ≡ followed_by (followed_by {B = List ℕ × TypeExpr} named (λ bytes. followed_by done (λ done. followed_by type
+        (λ type. Reads (bytes, type))))) (λ typed. Reads (param_at p typed))
+    in_turn (Reads bytes) (Reads done) (Reads type) = refl
+    in_turn (Reads bytes) (Reads done) (Refuses kind q) = refl
+    in_turn (Reads bytes) (Refuses kind q) type = refl
+    in_turn (Refuses kind q) done type = refl
+typed_row seen p (x ▹ c ▹ t ▹ d ▹ rest) = refl
 
 pub no_param_list : (p : Pos) (x : List ℕ) (m : Mark) → walk_param_list (marked_symbol p x m) ≡ Refuses BadForm p
 no_param_list p x (Reserved w) = refl
@@ -105,5 +133,6 @@ pub ruleset param_steps = (
   colon_stands,
   colon_lacks,
   symbol_param,
+  typed_row,
   no_param_list,
 )

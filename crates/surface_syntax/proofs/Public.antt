@@ -6,6 +6,7 @@ use Rattle.surface_syntax.proofs.Binds.{read_is_one}
 use Rattle.surface_syntax.proofs.FormsFound.{form_found}
 use Rattle.surface_syntax.proofs.FormsRead.{form_read}
 pub use Rattle.surface_syntax.proofs.Sound.{brackets, brackets_of}
+pub use Rattle.surface_syntax.proofs.TopSound.{brackets_of_are}
 use Rattle.surface_syntax.proofs.Runs.{runs_are_new, runs_kept, none_repeat}
 use Rattle.surface_syntax.proofs.TopsFound.{tops_found}
 use Rattle.surface_syntax.proofs.TopsRead.{tops_read}

@@ -5,8 +5,7 @@ use Rattle.grift_base.specs.declared.places.Pos.{Pos}
 use Rattle.grift_base.specs.declared.refusals.RefusalKind.{RefusalKind}
 use Rattle.grift_base.specs.declared.refusals.RefusalKind.TheVariants.{BadForm, TooWide}
 use Rattle.surface_syntax.specs.declared.words.Word.{Word}
-use Rattle.surface_syntax.specs.declared.words.Word.TheVariants.{Lambda, Let, Letrec, If, Begin, And, Or, Repeat, Tuple}
-use Rattle.surface_syntax.specs.declared.words.Word.TheVariants.{TupleProj, Define, Colon, Arrow, Operator}
+use Rattle.surface_syntax.specs.declared.words.Word.TheVariants.{Arrow}
 use Rattle.surface_syntax.specs.declared.words.TypeWord.TheVariants.{Int, Bool as BoolWord, Unit as UnitWord, Dyn}
 use Rattle.surface_syntax.specs.declared.words.TypeWord.TheVariants.{Tuple as TupleWord, Ref, Vect, Rec}
 use Rattle.sexpr_reader.specs.declared.sexps.SexpNode.{SexpNode}
@@ -151,87 +150,22 @@ types_more (suc room) t rest e =
 
 pub signature_end : (room : ℕ) (s : Sexpr) (rest : Sexprs) → is_arrow_at s ≡ true → walk_signature room (s ▹ rest)
     ≡ followed_by (walk_only (place s) rest) (λ result. Reads (record { parameters = NoTypes; result = result }))
-signature_end zero (word q Lambda) rest e = absurd (let z : ⊥ = cc in z)
-signature_end zero (word q Let) rest e = absurd (let z : ⊥ = cc in z)
-signature_end zero (word q Letrec) rest e = absurd (let z : ⊥ = cc in z)
-signature_end zero (word q If) rest e = absurd (let z : ⊥ = cc in z)
-signature_end zero (word q Begin) rest e = absurd (let z : ⊥ = cc in z)
-signature_end zero (word q And) rest e = absurd (let z : ⊥ = cc in z)
-signature_end zero (word q Or) rest e = absurd (let z : ⊥ = cc in z)
-signature_end zero (word q Repeat) rest e = absurd (let z : ⊥ = cc in z)
-signature_end zero (word q Tuple) rest e = absurd (let z : ⊥ = cc in z)
-signature_end zero (word q TupleProj) rest e = absurd (let z : ⊥ = cc in z)
-signature_end zero (word q Define) rest e = absurd (let z : ⊥ = cc in z)
-signature_end zero (word q Colon) rest e = absurd (let z : ⊥ = cc in z)
 signature_end zero (word q Arrow) rest e = refl
-signature_end zero (word q (Operator o)) rest e = absurd (let z : ⊥ = cc in z)
-signature_end zero (name q x t) rest e = absurd (let z : ⊥ = cc in z)
-signature_end zero (number q n) rest e = absurd (let z : ⊥ = cc in z)
-signature_end zero (truth_value q b) rest e = absurd (let z : ⊥ = cc in z)
-signature_end zero (list q l) rest e = absurd (let z : ⊥ = cc in z)
-signature_end (suc room) (word q Lambda) rest e = absurd (let z : ⊥ = cc in z)
-signature_end (suc room) (word q Let) rest e = absurd (let z : ⊥ = cc in z)
-signature_end (suc room) (word q Letrec) rest e = absurd (let z : ⊥ = cc in z)
-signature_end (suc room) (word q If) rest e = absurd (let z : ⊥ = cc in z)
-signature_end (suc room) (word q Begin) rest e = absurd (let z : ⊥ = cc in z)
-signature_end (suc room) (word q And) rest e = absurd (let z : ⊥ = cc in z)
-signature_end (suc room) (word q Or) rest e = absurd (let z : ⊥ = cc in z)
-signature_end (suc room) (word q Repeat) rest e = absurd (let z : ⊥ = cc in z)
-signature_end (suc room) (word q Tuple) rest e = absurd (let z : ⊥ = cc in z)
-signature_end (suc room) (word q TupleProj) rest e = absurd (let z : ⊥ = cc in z)
-signature_end (suc room) (word q Define) rest e = absurd (let z : ⊥ = cc in z)
-signature_end (suc room) (word q Colon) rest e = absurd (let z : ⊥ = cc in z)
 signature_end (suc room) (word q Arrow) rest e = refl
-signature_end (suc room) (word q (Operator o)) rest e = absurd (let z : ⊥ = cc in z)
-signature_end (suc room) (name q x t) rest e = absurd (let z : ⊥ = cc in z)
-signature_end (suc room) (number q n) rest e = absurd (let z : ⊥ = cc in z)
-signature_end (suc room) (truth_value q b) rest e = absurd (let z : ⊥ = cc in z)
-signature_end (suc room) (list q l) rest e = absurd (let z : ⊥ = cc in z)
+signature_end _ _ rest e = absurd (let z : ⊥ = cc in z)
 
 pub signature_full : (room : ℕ) (s : Sexpr) (rest : Sexprs) → is_arrow_at s ≡ false → room ≡ 0
     → walk_signature room (s ▹ rest) ≡ Refuses TooWide (place s)
-signature_full zero (word q Lambda) rest e m = refl
-signature_full zero (word q Let) rest e m = refl
-signature_full zero (word q Letrec) rest e m = refl
-signature_full zero (word q If) rest e m = refl
-signature_full zero (word q Begin) rest e m = refl
-signature_full zero (word q And) rest e m = refl
-signature_full zero (word q Or) rest e m = refl
-signature_full zero (word q Repeat) rest e m = refl
-signature_full zero (word q Tuple) rest e m = refl
-signature_full zero (word q TupleProj) rest e m = refl
-signature_full zero (word q Define) rest e m = refl
-signature_full zero (word q Colon) rest e m = refl
 signature_full zero (word q Arrow) rest e m = absurd (let z : ⊥ = cc in z)
-signature_full zero (word q (Operator o)) rest e m = refl
-signature_full zero (name q x t) rest e m = refl
-signature_full zero (number q n) rest e m = refl
-signature_full zero (truth_value q b) rest e m = refl
-signature_full zero (list q l) rest e m = refl
+signature_full zero _ rest e m = refl
 signature_full (suc room) s rest e m = absurd (omega arith)
 
 pub signature_next : (room : ℕ) (s : Sexpr) (rest : Sexprs) → is_arrow_at s ≡ false
     → walk_signature (suc room) (s ▹ rest)
     ≡ followed_by (walk_type s) (λ type. followed_by (walk_signature room rest) (λ others.
     Reads (record { parameters = TypeThen type others.parameters; result = others.result })))
-signature_next room (word q Lambda) rest e = refl
-signature_next room (word q Let) rest e = refl
-signature_next room (word q Letrec) rest e = refl
-signature_next room (word q If) rest e = refl
-signature_next room (word q Begin) rest e = refl
-signature_next room (word q And) rest e = refl
-signature_next room (word q Or) rest e = refl
-signature_next room (word q Repeat) rest e = refl
-signature_next room (word q Tuple) rest e = refl
-signature_next room (word q TupleProj) rest e = refl
-signature_next room (word q Define) rest e = refl
-signature_next room (word q Colon) rest e = refl
 signature_next room (word q Arrow) rest e = absurd (let z : ⊥ = cc in z)
-signature_next room (word q (Operator o)) rest e = refl
-signature_next room (name q x t) rest e = refl
-signature_next room (number q n) rest e = refl
-signature_next room (truth_value q b) rest e = refl
-signature_next room (list q l) rest e = refl
+signature_next room _ rest e = refl
 
 pub signature_more : (room : ℕ) (s : Sexpr) (rest : Sexprs) → is_arrow_at s ≡ false → room ≢ 0
     → walk_signature room (s ▹ rest)

@@ -18,7 +18,7 @@ use Rattle.surface_syntax.specs.Walk.{Bound, walk_type, walk_param_list}
 use Rattle.surface_syntax.specs.Expansion.{chain_of, fresh, loop_names, repeat_of, repeat_into_of, type_or_dyn}
 use Rattle.surface_syntax.specs.Pass.{Parsing, ParsedRange, ◌>>=◌, give, refuse, plain, named, parse, parse_each}
 use Rattle.surface_syntax.specs.Pass.{parse_within, parse_lets, parse_letrecs, parse_binding}
-use Rattle.surface_syntax.specs.Pass.{parse_range, parse_lambda_form}
+use Rattle.surface_syntax.specs.Pass.{parse_range}
 use Rattle.surface_syntax.specs.Parts.{part_number, parse_behind}
 use Rattle.surface_syntax.specs.Elements.{two_of, three_of, range_parts, names_and_body, repeat_parts, bound_parts}
 use Rattle.surface_syntax.specs.Elements.{lambda_parts, typed_body, behind_lambda}
@@ -181,19 +181,18 @@ abbrev pub bound_name : List (List ℕ) → Sexpr → Option (Sexpr × Sexpr) �
 bound_name seen x written =
     followed_by (binder seen x) (λ bytes. followed_by (written_type written) (λ type. Reads (bytes, type)))
 
-abbrev pub binding_from : List (List ℕ) → Sexpr → Parsing (Bound Expr)
-binding_from seen s = do
-  parts ← plain (bound_parts s)
-  known ← plain (bound_name seen parts.name parts.written)
-  value ← parse parts.value
-  give (record { name = known.0; written = known.1; value = value })
+-- what binds a name: the name with its type, and what is bound to it
+abbrev pub bound_to : List (List ℕ) → Sexpr → Walked ((List ℕ × Option TypeExpr) × Sexpr)
+bound_to seen s =
+    followed_by (bound_parts s) (λ parts. followed_by (bound_name seen parts.name parts.written) (λ known.
+    Reads (known, parts.value)))
 
-abbrev pub member_from : List (List ℕ) → Sexpr → Parsing (Bound LambdaExpr)
-member_from seen s = do
-  parts ← plain (bound_parts s)
-  known ← plain (bound_name seen parts.name parts.written)
-  value ← parse_lambda_form parts.value
-  give (record { name = known.0; written = known.1; value = value })
+-- the same, with what is read of it
+abbrev pub bound_from : {A : Type 0} → (Sexpr → Parsing A) → List (List ℕ) → Sexpr → Parsing (Bound A)
+bound_from read seen s = do
+  bound ← plain (bound_to seen s)
+  value ← read bound.1
+  give (record { name = bound.0.0; written = bound.0.1; value = value })
 
 abbrev pub range_from : Sexpr → Parsing ParsedRange
 range_from s = do

@@ -15,52 +15,35 @@ use Rattle.surface_syntax.specs.declared.words.Mark.{Mark}
 use Rattle.surface_syntax.specs.declared.words.Mark.TheVariants.{Reserved, Free}
 use Rattle.surface_syntax.specs.declared.words.TheConstants.{RESERVED_WORDS, TYPE_WORDS}
 
-abbrev pub operator_text : PrimOp → List ℕ
-operator_text Add = codes "+"
-operator_text Sub = codes "-"
-operator_text Mul = codes "*"
-operator_text Quot = codes "%/"
-operator_text Rem = codes "%%"
-operator_text Lt = codes "<"
-operator_text Le = codes "<="
-operator_text Eq = codes "="
-operator_text Ge = codes ">="
-operator_text Gt = codes ">"
-operator_text Not = codes "not"
-operator_text PrintInt = codes "print-int"
-operator_text Newline = codes "newline"
-operator_text ReadInt = codes "read-int"
-operator_text MakeBox = codes "box"
-operator_text Unbox = codes "unbox"
-operator_text BoxSet = codes "box-set!"
-operator_text MakeVector = codes "make-vector"
-operator_text VectorRef = codes "vector-ref"
-operator_text VectorSet = codes "vector-set!"
-operator_text VectorLength = codes "vector-length"
+-- how an operator is written, and how many operands it has
+abbrev pub operator_word : PrimOp → List ℕ × ℕ
+operator_word Add = (codes "+", 2)
+operator_word Sub = (codes "-", 2)
+operator_word Mul = (codes "*", 2)
+operator_word Quot = (codes "%/", 2)
+operator_word Rem = (codes "%%", 2)
+operator_word Lt = (codes "<", 2)
+operator_word Le = (codes "<=", 2)
+operator_word Eq = (codes "=", 2)
+operator_word Ge = (codes ">=", 2)
+operator_word Gt = (codes ">", 2)
+operator_word Not = (codes "not", 1)
+operator_word PrintInt = (codes "print-int", 1)
+operator_word Newline = (codes "newline", 0)
+operator_word ReadInt = (codes "read-int", 0)
+operator_word MakeBox = (codes "box", 1)
+operator_word Unbox = (codes "unbox", 1)
+operator_word BoxSet = (codes "box-set!", 2)
+operator_word MakeVector = (codes "make-vector", 2)
+operator_word VectorRef = (codes "vector-ref", 2)
+operator_word VectorSet = (codes "vector-set!", 3)
+operator_word VectorLength = (codes "vector-length", 1)
 
--- how many operands an operator has
+abbrev pub operator_text : PrimOp → List ℕ
+operator_text operator = (operator_word operator).0
+
 abbrev pub operand_count : PrimOp → ℕ
-operand_count Add = 2
-operand_count Sub = 2
-operand_count Mul = 2
-operand_count Quot = 2
-operand_count Rem = 2
-operand_count Lt = 2
-operand_count Le = 2
-operand_count Eq = 2
-operand_count Ge = 2
-operand_count Gt = 2
-operand_count Not = 1
-operand_count PrintInt = 1
-operand_count Newline = 0
-operand_count ReadInt = 0
-operand_count MakeBox = 1
-operand_count Unbox = 1
-operand_count BoxSet = 2
-operand_count MakeVector = 2
-operand_count VectorRef = 2
-operand_count VectorSet = 3
-operand_count VectorLength = 1
+operand_count operator = (operator_word operator).1
 
 abbrev pub word_text : Word → List ℕ
 word_text Lambda = codes "lambda"

@@ -396,10 +396,11 @@ fn sum_of(alloc: Global, pos: Pos, start: Binding) -> Result<Sum, OutOfMemory>
 {
     let name = bytes_of(alloc, &start.name);
     let (start, name) = beside(start, name)?;
+    let (_, ty, value) = start.parts();
     Ok(Sum {
         name,
-        ty: type_or_dyn(pos, start.ty),
-        value: start.value,
+        ty: type_or_dyn(pos, ty),
+        value,
     })
 }
 

@@ -176,10 +176,7 @@ pub fn bound_parts(sexp: &Sexp) -> Result<BoundParts, FrontFault>
     }) (bound_parts (marked (datum_of sexp.now))) }
     ensures value { IfOk result (λ parts. size-Sexp parts.value.now < size-Sexp sexp.now) }
 {
-    let SexpNode::List(elements) = &sexp.node else {
-        return bad_form(sexp.pos);
-    };
-    let SexpList::Cons(name, rest) = elements else {
+    let SexpNode::List(SexpList::Cons(name, rest)) = &sexp.node else {
         return bad_form(sexp.pos);
     };
     let SexpList::Cons(second, rest) = &**rest else {
@@ -271,10 +268,7 @@ pub fn behind_lambda(sexp: &Sexp) -> Result<&SexpList, FrontFault>
         sexp.now))) }
     ensures smaller { IfOk result (λ list. size-SexpList list.now < size-Sexp sexp.now) }
 {
-    let SexpNode::List(elements) = &sexp.node else {
-        return bad_form(sexp.pos);
-    };
-    let SexpList::Cons(head, rest) = elements else {
+    let SexpNode::List(SexpList::Cons(head, rest)) = &sexp.node else {
         return bad_form(sexp.pos);
     };
     if !is_lambda_at(head) {

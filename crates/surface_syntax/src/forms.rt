@@ -20,12 +20,12 @@ ghost use Rattle.surface_syntax.specs.Claims.{Answers, Parses};
 use crate::collect::{binding_list, expr_list, member_list, push};
 use crate::derived::{Range, cons, if_at, source};
 use crate::elements::{
-    behind_lambda, bound_parts, lambda_parts, names_and_body, range_parts, repeat_parts, three_of,
-    two_of, typed_body,
+    behind_lambda, lambda_parts, names_and_body, range_parts, repeat_parts, three_of, two_of,
+    typed_body,
 };
 use crate::lists::{bad_form, refused, word_at};
 use crate::operands::{Head, applied_to, called, room};
-use crate::params::{bound_name, only_name, param_list};
+use crate::params::{bound_to, only_name, param_list};
 use crate::repeats::{counted_repeat, gathered_repeat};
 use crate::scopes::Scope;
 use crate::type_forms::type_expr;
@@ -395,9 +395,8 @@ fn binding(
     ensures bound { IfOk result (λ b. scope.new ≡ scope.old ++ source_of (name_of_binding b) ∷ []) }
     ensures source { IfOk result (λ b. name_of_binding b ≡ Source (source_of (name_of_binding b))) }
 {
-    let parts = bound_parts(sexp)?;
-    let bound = bound_name(alloc, scope, parts.name, parts.written)?;
-    let value = expr(alloc, names, parts.value)?;
+    let (bound, value) = bound_to(alloc, scope, sexp)?;
+    let value = expr(alloc, names, value)?;
     Ok(Binding {
         name: Ident::Source(bound.name),
         ty: bound.ty,
@@ -434,9 +433,8 @@ fn member(
     ensures bound { IfOk result (λ m. scope.new ≡ scope.old ++ source_of (name_of_member m) ∷ []) }
     ensures source { IfOk result (λ m. name_of_member m ≡ Source (source_of (name_of_member m))) }
 {
-    let parts = bound_parts(sexp)?;
-    let bound = bound_name(alloc, scope, parts.name, parts.written)?;
-    let fun = function(alloc, names, parts.value)?;
+    let (bound, value) = bound_to(alloc, scope, sexp)?;
+    let fun = function(alloc, names, value)?;
     Ok(Member {
         name: Ident::Source(bound.name),
         ty: bound.ty,

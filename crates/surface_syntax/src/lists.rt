@@ -45,40 +45,28 @@ pub fn word_at(sexp: &Sexp) -> Option<Word>
 pub fn is_colon_at(sexp: &Sexp) -> bool
     ensures { result ≡ is_colon (marked (datum_of sexp.now)) }
 {
-    match word_at(sexp) {
-        Some(word) => word.is_colon(),
-        None => false,
-    }
+    matches!(word_at(sexp), Some(Word::Colon))
 }
 
 /// Whether `->` stands there.
 pub fn is_arrow_at(sexp: &Sexp) -> bool
     ensures { result ≡ is_arrow_at (marked (datum_of sexp.now)) }
 {
-    match word_at(sexp) {
-        Some(word) => word.is_arrow(),
-        None => false,
-    }
+    matches!(word_at(sexp), Some(Word::Arrow))
 }
 
 /// Whether `lambda` stands there.
 pub fn is_lambda_at(sexp: &Sexp) -> bool
     ensures { result ≡ is_lambda_at (marked (datum_of sexp.now)) }
 {
-    match word_at(sexp) {
-        Some(word) => word.is_lambda(),
-        None => false,
-    }
+    matches!(word_at(sexp), Some(Word::Lambda))
 }
 
 /// Whether `define` stands there.
 pub fn is_define_at(sexp: &Sexp) -> bool
     ensures { result ≡ is_define_at (marked (datum_of sexp.now)) }
 {
-    match word_at(sexp) {
-        Some(word) => word.is_define(),
-        None => false,
-    }
+    matches!(word_at(sexp), Some(Word::Define))
 }
 
 /// Whether there are so many elements.

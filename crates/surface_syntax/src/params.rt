@@ -1,17 +1,19 @@
 // Parameters from s-expressions.
 #![tactic(auto, using(crate::proofs::ParamRows::param_steps), unfolding(crate::specs::Walking::followed_by))]
 
-ghost use Rattle.std.specs.Prelude.{◌≡◌, ◌++◌, ◌∷◌, [], IfOk};
+ghost use Rattle.std.specs.Prelude.{◌≡◌, ◌<◌, ◌++◌, ◌∷◌, [], IfOk};
+ghost use Rattle.sexpr_reader.specs.declared.sexps.Sexp.{size-Sexp};
 ghost use Rattle.sexpr_reader.specs.View.{datum_of, datums_of};
 ghost use Rattle.surface_syntax.specs.Marked.{marked, all_marked, list as list_at};
 ghost use Rattle.surface_syntax.specs.Walking.{binder};
 ghost use Rattle.surface_syntax.specs.Walk.{plain_param, walk_param, walk_params, walk_param_list};
 ghost use Rattle.std.specs.Option.{option_map};
-ghost use Rattle.surface_syntax.specs.Forms.{written_type, bound_name};
+ghost use Rattle.surface_syntax.specs.Forms.{written_type, bound_name, bound_to};
 ghost use Rattle.surface_trees.specs.Views.{type_of, written_of, source_of, named_param_of, params_of};
 ghost use Rattle.surface_syntax.specs.Parts.{typed_name};
 ghost use Rattle.surface_syntax.specs.Claims.{Answers};
 
+use crate::elements::{bound_parts, three_of};
 use crate::lists::{bad_form, binder, colon, refused};
 use crate::scopes::Scope;
 use crate::type_forms::type_expr;
@@ -89,8 +91,8 @@ pub struct BoundName {
     pub ty: Option<TypeExpr>,
 }
 
-/// A name that a scope binds, and `:` and its type, if they are written.
-pub fn bound_name(
+// A name that a scope binds, and `:` and its type, if they are written.
+fn bound_name(
     alloc: Global,
     scope: &mut Scope,
     name: &Sexp,
@@ -105,6 +107,22 @@ pub fn bound_name(
     Ok(BoundName { name, ty })
 }
 
+/// A name that a scope binds, with its type, if one is written, and what is bound to it.
+pub fn bound_to<'a>(
+    alloc: Global,
+    scope: &mut Scope,
+    sexp: &'a Sexp,
+) -> Result<(BoundName, &'a Sexp), FrontFault>
+    ensures name { Answers result (λ b. ((b.0.name, written_of b.0.ty), marked (datum_of b.1.now))) (bound_to scope.old
+        (marked (datum_of sexp.now))) }
+    ensures bound { IfOk result (λ b. scope.new ≡ scope.old ++ b.0.name ∷ []) }
+    ensures value { IfOk result (λ b. size-Sexp b.1.now < size-Sexp sexp.now) }
+{
+    let parts = bound_parts(sexp)?;
+    let bound = bound_name(alloc, scope, parts.name, parts.written)?;
+    Ok((bound, parts.value))
+}
+
 // A parameter between brackets: a name, `:` and a type.
 fn typed_param(
     alloc: Global,
@@ -116,25 +134,12 @@ fn typed_param(
         elements.now)))) }
     ensures bound { IfOk result (λ param. scope.new ≡ scope.old ++ source_of param.name ∷ []) }
 {
-    let SexpList::Cons(name, rest) = elements else {
-        return bad_form(pos);
-    };
-    let SexpList::Cons(mark, rest) = &**rest else {
-        return bad_form(pos);
-    };
-    let SexpList::Cons(written, rest) = &**rest else {
-        return bad_form(pos);
-    };
-    let SexpList::Nil = &**rest else {
-        return bad_form(pos);
-    };
-    let name = binder(alloc, scope, name)?;
-    colon(mark)?;
-    let ty = type_expr(alloc, written)?;
+    let parts = three_of(pos, elements)?;
+    let typed = typed_name(alloc, scope, parts.first, parts.second, parts.third)?;
     Ok(Param {
         pos,
-        name: Ident::Source(name),
-        ty: Some(ty),
+        name: Ident::Source(typed.name),
+        ty: Some(typed.ty),
     })
 }
 

@@ -2,7 +2,8 @@
 
 ghost use Rattle.std.specs.Prelude.{◌≡◌, map, IfOk};
 ghost use Rattle.surface_trees.specs.Trees.{ExprAt, UnitNode, LetNode, LetThen, NoLets};
-ghost use Rattle.surface_syntax.specs.Expansion.{ExprPart, Alone, closed, one_expr, with_function, before, ending, whole};
+ghost use Rattle.surface_syntax.specs.Expansion.{ExprPart, Alone, closed, one_expr, with_function};
+ghost use Rattle.surface_syntax.specs.Expansion.{before, ending, whole};
 ghost use Rattle.surface_trees.specs.Views.{expr_of};
 ghost use Rattle.surface_syntax.specs.Parts.{name_of_member, type_of_member, fun_of_member, name_of_binding};
 ghost use Rattle.surface_syntax.specs.Parts.{type_of_binding, value_of_binding};
@@ -67,8 +68,8 @@ fn with_expression(alloc: Global, pos: Pos, expr: Expr, rest: Rest) -> Result<Re
 
 // A value defined before the rest.
 fn with_value(alloc: Global, pos: Pos, binding: Binding, rest: Rest) -> Result<Rest, OutOfMemory>
-    ensures { IfOk result (λ r. rest_of r ≡ Alone (ExprAt pos (LetNode (LetThen (name_of_binding binding) (type_of_binding
-        binding) (value_of_binding binding) NoLets) (one_expr (closed (rest_of rest)))))) }
+    ensures { IfOk result (λ r. rest_of r ≡ Alone (ExprAt pos (LetNode (LetThen (name_of_binding binding)
+        (type_of_binding binding) (value_of_binding binding) NoLets) (one_expr (closed (rest_of rest)))))) }
 {
     let (binding, rest) = beside(binding, closed(alloc, rest))?;
     let bindings = bound_first(alloc, binding, Bindings::Nil);

@@ -56,26 +56,20 @@ pub enum Part {
 fn is_lambda_form(sexp: &Sexp) -> bool
     ensures { result ≡ is_lambda_form (marked (datum_of sexp.now)) }
 {
-    let SexpNode::List(elements) = &sexp.node else {
-        return false;
-    };
-    let SexpList::Cons(head, _) = elements else {
-        return false;
-    };
-    is_lambda_at(head)
+    match &sexp.node {
+        SexpNode::List(SexpList::Cons(head, _)) => is_lambda_at(head),
+        _ => false,
+    }
 }
 
 // Whether this is a list that `define` heads.
 fn is_definition(sexp: &Sexp) -> bool
     ensures { result ≡ is_definition (marked (datum_of sexp.now)) }
 {
-    let SexpNode::List(elements) = &sexp.node else {
-        return false;
-    };
-    let SexpList::Cons(head, _) = elements else {
-        return false;
-    };
-    is_define_at(head)
+    match &sexp.node {
+        SexpNode::List(SexpList::Cons(head, _)) => is_define_at(head),
+        _ => false,
+    }
 }
 
 // Ends the run of functions before the definition of a value.
@@ -209,10 +203,7 @@ fn definition(
     ensures part { Parses result part_of names.new (parse_definition run.old (marked (datum_of sexp.now)) names.old) }
     ensures run { IfOk result (λ part. Grows run.old run.new (part_of part)) }
 {
-    let SexpNode::List(elements) = &sexp.node else {
-        return bad_form(sexp.pos);
-    };
-    let SexpList::Cons(_, rest) = elements else {
+    let SexpNode::List(SexpList::Cons(_, rest)) = &sexp.node else {
         return bad_form(sexp.pos);
     };
     define(alloc, names, run, sexp.pos, rest)

@@ -1,8 +1,7 @@
 // The words that have a meaning in a source: one table of the reserved words, one of the operators, one of the types.
 
 ghost use Rattle.std.specs.Prelude.{◌≡◌};
-ghost use Rattle.surface_syntax.specs.Words.{operator_text, operand_count, first_with, mark_of, is_colon_word};
-ghost use Rattle.surface_syntax.specs.Words.{is_arrow_word, is_lambda_word, is_define_word};
+ghost use Rattle.surface_syntax.specs.Words.{operator_text, operand_count, first_with, mark_of, is_arrow_word};
 
 use grift_base::operators::PrimOp;
 
@@ -143,32 +142,11 @@ pub fn operand_count(operator: PrimOp) -> u64
 }
 
 impl Word {
-    /// Whether this is `:`.
-    pub fn is_colon(self) -> bool
-        ensures { result ≡ is_colon_word self }
-    {
-        matches!(self, Word::Colon)
-    }
-
     /// Whether this is `->`.
     pub fn is_arrow(self) -> bool
         ensures { result ≡ is_arrow_word self }
     {
         matches!(self, Word::Arrow)
-    }
-
-    /// Whether this is `lambda`.
-    pub fn is_lambda(self) -> bool
-        ensures { result ≡ is_lambda_word self }
-    {
-        matches!(self, Word::Lambda)
-    }
-
-    /// Whether this is `define`.
-    pub fn is_define(self) -> bool
-        ensures { result ≡ is_define_word self }
-    {
-        matches!(self, Word::Define)
     }
 }
 

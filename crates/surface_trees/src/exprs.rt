@@ -7,7 +7,6 @@ use grift_base::places::Pos;
 
 /// An expression and its place. What a derived form expands to has the place of that form.
 #[cycle(expr)]
-#[derive(Drop)]
 pub struct Expr {
     pub pos: Pos,
     pub node: ExprNode,
@@ -48,7 +47,6 @@ pub enum ExprNode {
 
 /// A function: its parameters, its result's type where one is written, and its body.
 #[cycle(expr)]
-#[derive(Drop)]
 pub struct LambdaExpr {
     pub pos: Pos,
     pub params: Params,
@@ -58,7 +56,6 @@ pub struct LambdaExpr {
 
 /// A name for a value: the name, its type where one is written, and the value.
 #[cycle(expr)]
-#[derive(Drop)]
 pub struct Binding {
     pub name: Ident,
     pub ty: Option<TypeExpr>,
@@ -67,7 +64,6 @@ pub struct Binding {
 
 /// A name for a function: the name, its type where one is written, and the function.
 #[cycle(expr)]
-#[derive(Drop)]
 pub struct Member {
     pub name: Ident,
     pub ty: Option<TypeExpr>,
@@ -136,6 +132,61 @@ impl Drop for ExprNode {
     }
 }
 
+impl Drop for Expr {
+    #[cycle(expr)]
+    fn drop(self) {
+        let Expr { pos: _, node } = self;
+        drop(node);
+    }
+}
+
+impl Drop for LambdaExpr {
+    #[cycle(expr)]
+    fn drop(self) {
+        let LambdaExpr {
+            pos: _,
+            params,
+            result,
+            body,
+        } = self;
+        drop(params);
+        drop(result);
+        drop(body);
+    }
+}
+
+impl Drop for Binding {
+    #[cycle(expr)]
+    fn drop(self) {
+        let Binding { name, ty, value } = self;
+        drop(name);
+        drop(ty);
+        drop(value);
+    }
+}
+
+impl Binding {
+    ghost use Rattle.std.specs.Prelude.{◌≡◌};
+
+    /// The name, the type where one is written, and the value.
+    pub fn parts(self) -> (Ident, Option<TypeExpr>, Expr)
+        ensures { result ≡ (self.name, self.ty, self.value) }
+    {
+        let Binding { name, ty, value } = self;
+        (name, ty, value)
+    }
+}
+
+impl Drop for Member {
+    #[cycle(expr)]
+    fn drop(self) {
+        let Member { name, ty, fun } = self;
+        drop(name);
+        drop(ty);
+        drop(fun);
+    }
+}
+
 // Loops, since a list may be longer than the process's stack is deep.
 impl Drop for ExprList {
     #[cycle(expr)]
@@ -193,8 +244,15 @@ impl ExprList {
 }
 
 /// A program: its one expression, and how many forms its source has at top level.
-#[derive(Drop)]
 pub struct Program {
     pub body: Expr,
     pub forms: u32,
+}
+
+// By hand, so that each place where one goes is one call.
+impl Drop for Program {
+    fn drop(self) {
+        let Program { body, forms: _ } = self;
+        drop(body);
+    }
 }

@@ -11,7 +11,6 @@ use type_graph::rows::Row;
 
 /// A type and its place: that of its word, or of its opening bracket.
 #[cycle(written_type)]
-#[derive(Drop)]
 pub struct TypeExpr {
     pub pos: Pos,
     pub node: TypeNode,
@@ -42,6 +41,14 @@ pub enum TypeExprs {
 }
 
 // By hand, so that each place where a type goes is one call.
+impl Drop for TypeExpr {
+    #[cycle(written_type)]
+    fn drop(self) {
+        let TypeExpr { pos: _, node } = self;
+        drop(node);
+    }
+}
+
 impl Drop for TypeNode {
     #[cycle(written_type)]
     fn drop(self) {
@@ -137,11 +144,18 @@ impl TypeExprs {
 }
 
 /// A parameter: its place, its name, and its type where one is written.
-#[derive(Drop)]
 pub struct Param {
     pub pos: Pos,
     pub name: Ident,
     pub ty: Option<TypeExpr>,
+}
+
+impl Drop for Param {
+    fn drop(self) {
+        let Param { pos: _, name, ty } = self;
+        drop(name);
+        drop(ty);
+    }
 }
 
 /// Parameters in order.

@@ -19,8 +19,8 @@ pub fn types_are_trees()
     ensures one { (types : TypeRows) (a b : ℕ) → IsOrderedTable types → AreSame types a b → a ≡ b }
 {}
 
-/// A table stays one where a row is put into it, which then stands at its place, and parts stand before wholes where they
-/// did before; and types keep their sizes and heights where rows are added.
+/// A table stays one where a row is put into it, which then stands at its place, and parts stand before wholes where
+/// they did before; and types keep their sizes and heights where rows are added.
 pub fn tables_grow()
     ensures table { (types : TypeRows) (row : TypeRow) → IsOrderedTable types → FitsTable types row
         → IsOrderedTable (intern row types).1 }

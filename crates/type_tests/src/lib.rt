@@ -4,10 +4,4 @@
 #![tactic(auto)]
 
 #[cfg(test)]
-mod coercions;
-#[cfg(test)]
-mod relations;
-#[cfg(test)]
-mod samples;
-#[cfg(test)]
-mod types;
+mod tests;

@@ -81,7 +81,7 @@ module _ (setting : Setting) (l : Layout) (procs : List Proc) (casts : List Type
   Cs vs ws = AreCarried l setting.address procs merged_meaning places objects (in_row vs) ws
 
   rt_filled : RtFilled setting l objects (heap_of s)
-  rt_filled = filled_of setting l procs casts m number objects (heap_of s) here.filled
+  rt_filled = filled_of setting l number objects (heap_of s) here.filled
 
   abbrev prices : Prices StepKind Coercion
   prices = merged_prices l.types (merging l.types casts) m
@@ -96,7 +96,7 @@ module _ (setting : Setting) (l : Layout) (procs : List Proc) (casts : List Type
       subst (λ ps. Here merged_meaning setting l procs casts m ps (objects ++ g.more) store n h) (sym (append-nil
       places))
       (record {
-        filled = filled_as setting l procs casts m n (objects ++ g.more) h
+        filled = filled_as setting l n (objects ++ g.more) h
             (subst (λ os. RtFilled setting l os h) g.is fine.filled);
         cells = cells_later l setting.address procs merged_meaning merged_laws places objects g.more h.memory places
             store

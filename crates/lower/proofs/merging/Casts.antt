@@ -70,7 +70,7 @@ module _ (setting : Setting) (l : Layout) (procs : List Proc) (casts : List Type
     (carried : CarriedIn l setting.address procs merged_meaning places objects v [] w) (row : ℕ) (c : Coercion)
     (held : Held l [] c (cast_word (slice_get words row))) (low : IsLow l c) where
   rt_filled : RtFilled setting l objects (heap_of s)
-  rt_filled = filled_of setting l procs casts m number objects (heap_of s) here.filled
+  rt_filled = filled_of setting l number objects (heap_of s) here.filled
 
   like : (x : Merged ℕ) × Like setting l procs places objects v x × Carries l objects x w
   like = like_of setting l procs places objects placed (heap_of s) here.filled v w carried

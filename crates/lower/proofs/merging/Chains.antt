@@ -135,7 +135,7 @@ module _ (setting : Setting) (l : Layout) (procs : List Proc) (casts : List Type
         more = g.grows.more;
         here = subst (λ ps. Here merged_meaning setting l procs casts m ps (objects ++ g.grows.more) store n
             (heap_of t)) (sym (append-nil places)) (record {
-              filled = filled_as setting l procs casts m n (objects ++ g.grows.more) (heap_of t) full;
+              filled = filled_as setting l n (objects ++ g.grows.more) (heap_of t) full;
               cells = cells_later l setting.address procs merged_meaning merged_laws places objects g.grows.more
                   t.memory places store
                   (cells_below l setting.address procs merged_meaning merged_laws places objects setting placed

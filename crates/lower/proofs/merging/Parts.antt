@@ -7,6 +7,7 @@ use Rattle.std.specs.Prelude.{max, FitsSigned}
 use Rattle.std.proofs.lemmas.Int.{SFits-int_wrap}
 use Rattle.grift_base.specs.Types.{TypeHead, IntHead, row_at, tuple_part, dyn_place}
 use Rattle.grift_base.specs.Types.{IntRow, BoolRow, UnitRow, DynRow, FunRow, TupleRow, RefRow, VectRow}
+use Rattle.grift_base.proofs.Public.{each_row}
 use Rattle.type_graph.specs.Trees.{height}
 use Rattle.run_laws.specs.Machines.{Reaches}
 use Rattle.machine_words.specs.Halts.{ending_of}
@@ -27,10 +28,9 @@ use Rattle.coercion_norm.specs.Objects.{Object}
 use Rattle.coercion_norm.proofs.Public.{coerce_normal}
 use Rattle.coer_core.specs.MergedTally.{Opens}
 use Rattle.flat_ir.specs.Bodies.{Proc}
-use Rattle.flat_ir.specs.FlatTally.{act_cost}
-use Rattle.coer_core.specs.TurnPrices.{merged_prices, effort_cost}
+use Rattle.coer_core.specs.TurnPrices.{effort_cost}
 use Rattle.cast_modes.specs.Prices.{Cost}
-use Rattle.flat_ir.specs.Machine.{FlatValue, FlatFrame, FlatStore, FlatAfter, flat_arity, flat_entered, flat_proj}
+use Rattle.flat_ir.specs.Machine.{FlatValue, FlatAfter, flat_arity, flat_entered, flat_proj}
 use Rattle.rt_cast.specs.ComposeCodes.{project as project_number}
 use Rattle.rt_cast.specs.Carried.{IsVery, Carries, ComesTo}
 use Rattle.rt_cast.specs.LightCasts.{cast_words_of, cast_price_of}
@@ -39,13 +39,13 @@ use Rattle.rt_cast.specs.MergedValues.{then_outcome}
 use Rattle.rt_cast.specs.PartCosts.{tuple_part_words, tuple_part_price, of_part, of_cast}
 use Rattle.rt_cast.specs.PartValues.{part_value, dyn_part_value, dyn_part_by, with_some}
 use Rattle.rt_cast.specs.Procs.{Stand, project_proc}
-use Rattle.rt_cast.specs.States.{Placed, IsReady, Filled as RtFilled, OnTheWay, Within, heap_of}
+use Rattle.rt_cast.specs.States.{Placed, OnTheWay, Within, heap_of}
 use Rattle.rt_cast.proofs.Public.{parts_of_tuples_are_answered, parts_in_dyn_are_answered}
 use Rattle.lower.specs.declared.served.Served.{Served}
 use Rattle.lower.specs.CarriedValues.{CarriedIn}
 use Rattle.lower.specs.Keeping.{FitsMeasures}
 use Rattle.lower.specs.MergedMeaning.{merged_meaning}
-use Rattle.lower.specs.SchemeLaws.{Here, Answers, Goes, PartsGiven, part_leaves}
+use Rattle.lower.specs.SchemeLaws.{Answers, Goes, PartsGiven, part_leaves}
 use Rattle.lower.proofs.heap.Objects.{none_some, same_some}
 use Rattle.lower.proofs.merging.Bounds.{Fits, cast_fits, nothing_fits, dyn_fits}
 use Rattle.lower.proofs.merging.Chains.{begun_by}
@@ -54,7 +54,7 @@ use Rattle.lower.proofs.merging.Chains.{ends_here, ends_cast_later, value_part, 
 use Rattle.lower.proofs.merging.Like.{Like, solid_head, like_of, prepared, values_of, head_at}
 use Rattle.lower.proofs.merging.Stages.{Stage, Stands, stays, takes}
 use Rattle.lower.proofs.words.Standing.{stands_as}
-use Rattle.lower.proofs.merging.States.{filled_of}
+use Rattle.lower.proofs.merging.States.{Situation, situated, speech}
 use Rattle.lower.proofs.words.Arithmetic.{word_small}
 
 -- nothing is past the end
@@ -129,16 +129,9 @@ dyn_part_normal types (Some row) k label d e = by_types (tuple_part row k) (dyn_
     by_types part dyn q = by_part part (dyn_place types) refl q
 
 module _ (setting : Setting) (l : Layout) (procs : List Proc) (casts : List TypeCast) (m : Measures)
-    (measured : FitsMeasures l m) (first : ℕ) (placed : Placed setting l) (types : TypesStand l)
-    (tallest : l.tallest ≤ 65534) (ready : Stand setting.procs first)
-    (s : LowState) (number : ℕ) (places : List ℕ) (objects : List Object) (store : FlatStore Coercion)
-    (here : Here merged_meaning setting l procs casts m places objects store number (heap_of s))
-    (base : List (FlatFrame Coercion)) where
-  rt_filled : RtFilled setting l objects (heap_of s)
-  rt_filled = filled_of setting l procs casts m number objects (heap_of s) here.filled
-
-  abbrev acting : Cost
-  acting = act_cost procs (merging l.types casts) (merged_prices l.types (merging l.types casts) m)
+    (situation : Situation setting l procs casts m) where
+  open situation use {measured, first, placed, types, tallest, ready, s, number, places, objects, store, here, base}
+  open (speech setting l procs casts m situation) use {rt_filled, is_ready, acting}
 
   abbrev opening : Cost
   opening = effort_cost m Opens
@@ -147,8 +140,12 @@ module _ (setting : Setting) (l : Layout) (procs : List Proc) (casts : List Type
       → Stands setting l procs casts m s (entered s (project_proc first) words)
   stands_at words = record { objects = objects; filled = rt_filled; same = refl; room = omega arith }
 
-  is_ready : IsReady setting l first
-  is_ready = record { placed = placed; stand = ready; types = types }
+  -- the law of a walk from a state that comes to this
+  abbrev Lawful : ℕ → ℕ → ℕ → Outcome ℕ → LowState → Type 0
+  Lawful deep wide dear total te =
+      (steps : ℕ) × Reaches (low_machine ending_of setting) (OnTheWay setting l s deep wide)
+      (λ v. Within s deep wide v × ComesTo l setting s (IsVery l) objects total v) steps te
+      × CostsAtMost ending_of setting steps te dear
 
   -- the parts of a value, as the procedures see it
   abbrev Parts : FlatValue Coercion → Merged ℕ → Type 0
@@ -193,16 +190,10 @@ module _ (setting : Setting) (l : Layout) (procs : List Proc) (casts : List Type
     abbrev dear : ℕ
     dear = tuple_part_price prep.0 l k x
 
-    law : (total ≡ Stuck → ⊥)
-        → (steps : ℕ) × Reaches (low_machine ending_of setting) (OnTheWay setting l s deep wide)
-        (λ v. Within s deep wide v × ComesTo l setting s (IsVery l) objects total v) steps te
-        × CostsAtMost ending_of setting steps te dear
+    law : (total ≡ Stuck → ⊥) → Lawful deep wide dear total te
     law some = by_test (nat_lt k 8) refl
       where
-        by_test : (b : Bool) → nat_lt k 8 ≡ b
-            → (steps : ℕ) × Reaches (low_machine ending_of setting) (OnTheWay setting l s deep wide)
-            (λ v. Within s deep wide v × ComesTo l setting s (IsVery l) objects total v) steps te
-            × CostsAtMost ending_of setting steps te dear
+        by_test : (b : Bool) → nat_lt k 8 ≡ b → Lawful deep wide dear total te
         by_test false q =
             absurd (some (far (λ a. H) prep.0 l.types k prep.2 (ltb-false k 8 q) x))
         by_test true q =
@@ -210,12 +201,8 @@ module _ (setting : Setting) (l : Layout) (procs : List Proc) (casts : List Type
             let z = parts_of_tuples_are_answered ending_of setting l first s refl is_ready tallest objects rt_filled
             (λ a. H) prep.0 prep.1 x total w k label refl some carries in
             let e = mod-eq_of_lt (let y : k < 2 ^ 64 = omega (arith, less) in y) in
-            let Says : ℕ → Type 0 = λ n.
-            (steps : ℕ) × Reaches (low_machine ending_of setting) (OnTheWay setting l s deep wide)
-            (λ v. Within s deep wide v × ComesTo l setting s (IsVery l) objects total v) steps
-            (entered s (project_proc first) (w ∷ n ∷ 1 ∷ label ∷ []))
-            × CostsAtMost ending_of setting steps (entered s (project_proc first) (w ∷ n ∷ 1 ∷ label ∷ [])) dear in
-            subst Says (sym e) (z.0, z.2, z.3)
+            subst (λ n. Lawful deep wide dear total (entered s (project_proc first) (w ∷ n ∷ 1 ∷ label ∷ [])))
+            (sym e) (z.0, z.2, z.3)
 
     begins : Walking setting l procs casts m measured placed s places objects store number here base part_leaves
         H total wide dear te
@@ -291,19 +278,12 @@ module _ (setting : Setting) (l : Layout) (procs : List Proc) (casts : List Type
     abbrev dear_dyn : ℕ
     dear_dyn = of_part parts (cast_price_of l) k x + 337
 
-    law_dyn : (total_dyn ≡ Stuck → ⊥)
-        → (steps : ℕ) × Reaches (low_machine ending_of setting) (OnTheWay setting l s deep_dyn wide_dyn)
-        (λ v. Within s deep_dyn wide_dyn v × ComesTo l setting s (IsVery l) objects total_dyn v) steps te_dyn
-        × CostsAtMost ending_of setting steps te_dyn dear_dyn
+    law_dyn : (total_dyn ≡ Stuck → ⊥) → Lawful deep_dyn wide_dyn dear_dyn total_dyn te_dyn
     law_dyn some =
         let z = parts_in_dyn_are_answered ending_of setting l first s refl is_ready tallest objects rt_filled
         (λ a. head) parts have (InDyn kept x) total_dyn w k label refl some whole in
-        let Says : ℕ → Type 0 = λ n.
-        (steps : ℕ) × Reaches (low_machine ending_of setting) (OnTheWay setting l s deep_dyn wide_dyn)
-        (λ v. Within s deep_dyn wide_dyn v × ComesTo l setting s (IsVery l) objects total_dyn v) steps
-        (entered s (project_proc first) (w ∷ n ∷ 0 ∷ label ∷ []))
-        × CostsAtMost ending_of setting steps (entered s (project_proc first) (w ∷ n ∷ 0 ∷ label ∷ [])) dear_dyn in
-        subst Says (sym word_is) (z.0, z.2, z.3)
+        subst (λ n. Lawful deep_dyn wide_dyn dear_dyn total_dyn
+        (entered s (project_proc first) (w ∷ n ∷ 0 ∷ label ∷ []))) (sym word_is) (z.0, z.2, z.3)
 
     begins_dyn : Walking setting l procs casts m measured placed s places objects store number here base part_leaves
         head total_dyn wide_dyn dear_dyn te_dyn
@@ -518,14 +498,8 @@ module _ (setting : Setting) (l : Layout) (procs : List Proc) (casts : List Type
         past_end parts word (let a = narrow.0.1 in let b = high in omega (arith, a, b, long))
 
     below_none : (row : Rattle.grift_base.specs.Types.TypeRow) → tuple_part row (negsuc n) ≡ None
-    below_none IntRow = refl
-    below_none BoolRow = refl
-    below_none UnitRow = refl
-    below_none DynRow = refl
-    below_none (FunRow parameters answer) = refl
-    below_none (RefRow content) = refl
-    below_none (VectRow content) = refl
-    below_none (TupleRow parts) = refl
+    below_none = each_row (λ row. tuple_part row (negsuc n) ≡ None)
+        refl refl refl refl (λ _ _. refl) (λ _. refl) (λ _. refl) (λ _. refl)
 
     pub by_row : (o : Option Rattle.grift_base.specs.Types.TypeRow) → row_at l.types kept ≡ o
         → Answers merged_meaning setting l procs casts m s part_leaves places objects base
@@ -586,9 +560,12 @@ merged_parts_given setting l procs casts m first run_by measured placed types ta
       stands_as setting run_by.project (project_proc first)
       (ap (λ n. slice_get setting.procs n) number_is ∙ ready 3 (project_proc first) refl) refl;
   gives = λ s number places objects store here base v cast w c part label.
-      gives setting l procs casts m measured first placed types tallest ready s number places objects store here base v
+      gives setting l procs casts m
+      (situated setting l procs casts m measured first placed types tallest ready s number places objects store here
+      base) v
       cast w c part label;
   gives_dyn = λ s number places objects store here base v w c part label small fits.
-      gives_dyn setting l procs casts m measured first placed types tallest ready s number places objects store here
-      base v w c part label fits;
+      gives_dyn setting l procs casts m
+      (situated setting l procs casts m measured first placed types tallest ready s number places objects store here
+      base) v w c part label fits;
 }

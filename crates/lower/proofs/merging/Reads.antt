@@ -5,32 +5,31 @@ use Rattle.std.proofs.Common.{Some, None, Option, Bool, true, false, refl, sym, 
 use Rattle.std.proofs.Common.{append-nil, le_refl}
 use Rattle.std.specs.Prelude.{option_map, ◌==◌, ◌++◌}
 use Rattle.grift_base.specs.Types.{TypeHead}
+use Rattle.grift_base.specs.World.{WorldState}
 use Rattle.grift_base.specs.declared.operators.PrimOp.TheVariants.{Unbox, VectorRef, VectorLength}
 use Rattle.grift_base.specs.declared.verdicts.Trap.TheVariants.{Index}
 use Rattle.machine_words.specs.Halts.{ending_of}
 use Rattle.core_calc.specs.Account.{Measures}
 use Rattle.low_ir.specs.Run.{Setting, LowState, entered}
 use Rattle.coercion_norm.specs.Coercions.{Coercion, Id, rows_of}
-use Rattle.cast_modes.specs.Modes.{TypeCast}
+use Rattle.cast_modes.specs.Modes.{Mode, TypeCast}
 use Rattle.coercion_norm.specs.Normal.{IsNormal}
 use Rattle.coercion_norm.specs.MergedMode.{merging, cell_coercion}
 use Rattle.cast_modes.specs.RunValues.{RunInt, RunBool, RunUnit, RunFun, RunTuple, RunLoc, RunWrap, RunInject}
 use Rattle.cast_modes.specs.RunValues.{in_row}
-use Rattle.cast_modes.specs.ValueSteps.{Return, On, TrapOf, NoNext, CastFrame, PrimFrame, on_some, element_or_trap}
-use Rattle.cast_modes.specs.ValueSteps.{run_with_element, run_unbox_cell}
-use Rattle.coercion_norm.specs.Objects.{Object}
+use Rattle.cast_modes.specs.ValueSteps.{Return, On, TrapOf, NoNext, CastFrame, PrimFrame, on_some}
+use Rattle.cast_modes.specs.ValueSteps.{run_unbox_cell}
 use Rattle.coercion_norm.specs.Held.{Layout, TypesStand}
 use Rattle.flat_ir.specs.Bodies.{Proc}
 use Rattle.flat_ir.specs.Counts.{flat_turn_wraps}
 use Rattle.flat_ir.specs.FlatTally.{act_cost, flat_cost}
 use Rattle.coer_core.specs.TurnPrices.{merged_prices}
-use Rattle.cast_modes.specs.Prices.{Cost}
 use Rattle.flat_ir.specs.Machine.{FlatValue, FlatFrame, FlatFocus, FlatStore, FlatAfter, flat_operate, flat_turn}
 use Rattle.flat_ir.specs.Machine.{flat_arity, flat_entered}
 use Rattle.rt_cast.specs.ComposeCodes.{cast}
 use Rattle.rt_cast.specs.LightCasts.{cast_words_of, cast_price_of}
 use Rattle.rt_cast.specs.Procs.{Stand}
-use Rattle.rt_cast.specs.States.{Placed, IsReady, Filled as RtFilled, heap_of}
+use Rattle.rt_cast.specs.States.{Placed, heap_of}
 use Rattle.rt_cast.specs.Carried.{Carries}
 use Rattle.rt_cast.specs.MergedValues.{Merged, Solid, Proxied, Outcome, Gives, cast_value}
 use Rattle.rt_refs.specs.CellCodes.{read_proc}
@@ -39,7 +38,7 @@ use Rattle.lower.proofs.references.OverObjects.{elements_are_read, indices_outsi
 use Rattle.lower.specs.declared.served.Served.{Served}
 use Rattle.lower.specs.Keeping.{FitsMeasures}
 use Rattle.lower.specs.MergedMeaning.{merged_meaning}
-use Rattle.lower.specs.CarriedValues.{CarriedIn, AreCarried, CellHeld}
+use Rattle.lower.specs.CarriedValues.{AreCarried, CellHeld}
 use Rattle.lower.specs.SchemeLaws.{Here, After, Goes, Returns, ReturnsAt, Answers, OperatorDone, Aim, IsPending}
 use Rattle.lower.specs.SchemeLaws.{at_or_zero, operator_leaves}
 use Rattle.lower.proofs.heap.CarriedLater.{cells_below}
@@ -53,7 +52,7 @@ use Rattle.lower.proofs.merging.Stages.{Stands, stays, lands, trapped_at, calm_a
 use Rattle.lower.proofs.merging.States.{element_past, past_element, as_many}
 use Rattle.lower.proofs.words.Arithmetic.{positive_is, negative_is, small_fits}
 use Rattle.lower.proofs.merging.States.{element}
-use Rattle.lower.proofs.merging.States.{filled_of, filled_as, held, stands, short}
+use Rattle.lower.proofs.merging.States.{Situation, situated, speech, filled_as, held, stands, short}
 
 -- a value in a proxy is no bare one
 pub no_proxy : (a b : ℕ) (c : Coercion) → Solid a ≡ Proxied b c → ⊥
@@ -62,29 +61,34 @@ no_proxy a b c e = cc
 pub solid_same : (a b : ℕ) → Solid a ≡ Solid b → a ≡ b
 solid_same a b e = cc
 
+-- three operands are none of the operator that reads an element
+pub too_many : {C : Type 0} (procs : List Proc) (mode : Mode C) (store : FlatStore C) (world : WorldState)
+    (base : List (FlatFrame C)) (cell : ℕ) (index x : FlatValue C) (more : List (FlatValue C))
+    → flat_operate procs mode store world VectorRef (RunLoc cell true ∷ index ∷ x ∷ more) base ≡ NoNext
+too_many procs mode store world base cell (RunInt n) x more = refl
+too_many procs mode store world base cell (RunBool b) x more = refl
+too_many procs mode store world base cell RunUnit x more = refl
+too_many procs mode store world base cell (RunFun code captured) x more = refl
+too_many procs mode store world base cell (RunTuple values) x more = refl
+too_many procs mode store world base cell (RunLoc other b) x more = refl
+too_many procs mode store world base cell (RunWrap y z) x more = refl
+too_many procs mode store world base cell (RunInject y z) x more = refl
+
 module _ (setting : Setting) (l : Layout) (procs : List Proc) (casts : List TypeCast) (m : Measures)
-    (measured : FitsMeasures l m) (first : ℕ) (placed : Placed setting l) (types : TypesStand l)
-    (tallest : l.tallest ≤ 65534) (ready : Stand setting.procs first)
-    (s : LowState) (number : ℕ) (places : List ℕ) (objects : List Object) (store : FlatStore Coercion)
-    (here : Here merged_meaning setting l procs casts m places objects store number (heap_of s))
-    (base : List (FlatFrame Coercion)) where
-  rt_filled : RtFilled setting l objects (heap_of s)
-  rt_filled = filled_of setting l procs casts m number objects (heap_of s) here.filled
-
-  is_ready : IsReady setting l first
-  is_ready = record { placed = placed; stand = ready; types = types }
-
-  abbrev Cs : List (FlatValue Coercion) → List ℕ → Type 0
-  Cs vs ws = AreCarried l setting.address procs merged_meaning places objects (in_row vs) ws
-
-  abbrev C : FlatValue Coercion → ℕ → Type 0
-  C v w = CarriedIn l setting.address procs merged_meaning places objects v [] w
+    (situation : Situation setting l procs casts m) where
+  open situation use {measured, first, placed, types, tallest, ready, s, number, places, objects, store, here, base}
+  open (speech setting l procs casts m situation) use {
+    rt_filled,
+    is_ready,
+    acting,
+    C,
+    Cs,
+    element_here,
+    with_element,
+  }
 
   abbrev deep : ℕ
   deep = 4 * l.tallest + 6
-
-  abbrev acting : Cost
-  acting = act_cost procs (merging l.types casts) (merged_prices l.types (merging l.types casts) m)
 
   abbrev aim : Aim merged_meaning setting l procs casts m
   aim focus frames store' n left t =
@@ -231,16 +235,6 @@ module _ (setting : Setting) (l : Layout) (procs : List Proc) (casts : List Type
 
   -- ---- elements of vectors
 
-  abbrev element_here : Option (FlatValue Coercion) → ℕ → (ℕ → FlatValue Coercion → FlatAfter Coercion)
-      → FlatAfter Coercion
-  element_here o i go =
-      element_or_trap (merging l.types casts) (flat_arity procs) (flat_entered procs) store s.world o i go
-
-  abbrev with_element : List (FlatValue Coercion) → ℤ → (ℕ → FlatValue Coercion → FlatAfter Coercion)
-      → FlatAfter Coercion
-  with_element values z go =
-      run_with_element (merging l.types casts) (flat_arity procs) (flat_entered procs) store s.world values z go
-
   -- of a vector without its proxy, told what is done with an element
   module _ (x : Merged ℕ) (wv a : ℕ) (hv : Carries l objects x wv) (below : under x ≡ Some a)
       (frames : List (FlatFrame Coercion)) (credit n : ℕ) where
@@ -332,22 +326,11 @@ module _ (setting : Setting) (l : Layout) (procs : List Proc) (casts : List Type
           cast_after true cell values in_store p.0 c (Proxied p.0 wrapper) wv p.2 d b.0 b.1 1 refl i v got 896
           (number + 0)) vec index wi p.1 ci)
 
-  -- three operands are none of this operator's
-  too_many : (cell : ℕ) (index x : FlatValue Coercion) (more : List (FlatValue Coercion))
-      → turn (RunLoc cell true ∷ index ∷ x ∷ more) base ≡ NoNext
-  too_many cell (RunInt n) x more = refl
-  too_many cell (RunBool b) x more = refl
-  too_many cell RunUnit x more = refl
-  too_many cell (RunFun code captured) x more = refl
-  too_many cell (RunTuple values) x more = refl
-  too_many cell (RunLoc other b) x more = refl
-  too_many cell (RunWrap y z) x more = refl
-  too_many cell (RunInject y z) x more = refl
-
   reads_for : (vs : List (FlatValue Coercion)) (ws : List ℕ) → Cs vs ws
       → Does (reads_at 1 (at_or_zero ws 0) (at_or_zero ws 1)) (turn vs base) 0 number
   reads_for (RunLoc cell true ∷ index ∷ x ∷ more) ws c =
-      subst (λ y. Does (reads_at 1 (at_or_zero ws 0) (at_or_zero ws 1)) y 0 number) (sym (too_many cell index x more))
+      subst (λ y. Does (reads_at 1 (at_or_zero ws 0) (at_or_zero ws 1)) y 0 number) (sym
+      (too_many procs (merging l.types casts) store s.world base cell index x more))
       (0, refl)
   reads_for (RunLoc cell true ∷ index ∷ []) [] c = absurd c
   reads_for (RunLoc cell true ∷ index ∷ []) (wv ∷ []) c = absurd c.1
@@ -426,7 +409,7 @@ module _ (setting : Setting) (l : Layout) (procs : List Proc) (casts : List Type
         (subst (λ os. Here merged_meaning setting l procs casts m places os store n (heap_of t)) (sym
         (append-nil objects))
         (record {
-          filled = filled_as setting l procs casts m n objects (heap_of t) g.fine.filled;
+          filled = filled_as setting l n objects (heap_of t) g.fine.filled;
           cells = cells_below l setting.address procs merged_meaning merged_laws places objects setting placed
               (heap_of s)
               here.filled t.memory g.fine.kept places store here.cells;
@@ -500,8 +483,9 @@ module _ (setting : Setting) (l : Layout) (procs : List Proc) (casts : List Type
       (λ ws. 1 ∷ at_or_zero ws 0 ∷ at_or_zero ws 1 ∷ [])
   merged_reads = record {
     does = λ s number places objects store here base vs ws c handed.
-        reads_for setting l procs casts m measured first placed types tallest ready s number places objects store here
-        base vs ws c;
+        reads_for setting l procs casts m
+        (situated setting l procs casts m measured first placed types tallest ready s number places objects store here
+        base) vs ws c;
   }
 
   pub merged_unboxes : OperatorDone merged_meaning setting l procs casts m run Unbox (read_proc (cast first))
@@ -512,8 +496,9 @@ module _ (setting : Setting) (l : Layout) (procs : List Proc) (casts : List Type
         (flat_operate procs (merging l.types casts) store s.world Unbox xs base)
         (act_cost procs (merging l.types casts) (merged_prices l.types (merging l.types casts) m)) number 0
         (entered s (read_proc (cast first)) (0 ∷ at_or_zero ws 0 ∷ 0 ∷ []))) (sym handed.3)
-        (unboxes_for setting l procs casts m measured first placed types tallest ready s number places objects store
-        here base handed.0 handed.1 handed.2 ws
+        (unboxes_for setting l procs casts m
+        (situated setting l procs casts m measured first placed types tallest ready s number places objects store here
+        base) handed.0 handed.1 handed.2 ws
         (subst (λ xs. AreCarried l setting.address procs merged_meaning places objects (in_row xs) ws) handed.3 c));
   }
 
@@ -521,6 +506,7 @@ module _ (setting : Setting) (l : Layout) (procs : List Proc) (casts : List Type
       (λ ws. 2 ∷ at_or_zero ws 0 ∷ 0 ∷ [])
   merged_measures = record {
     does = λ s number places objects store here base vs ws c handed.
-        measures_for setting l procs casts m measured first placed types tallest ready s number places objects store
-        here base vs ws c;
+        measures_for setting l procs casts m
+        (situated setting l procs casts m measured first placed types tallest ready s number places objects store here
+        base) vs ws c;
   }

@@ -39,6 +39,7 @@ use Rattle.lower.proofs.merging.Tags.{merged_casts_in_place}
 use Rattle.lower.proofs.merging.Laws.{merged_laws}
 use Rattle.lower.proofs.merging.Parts.{merged_parts_given}
 use Rattle.lower.proofs.merging.Products.{merged_products}
+use Rattle.lower.proofs.merging.States.{filled_of}
 use Rattle.lower.proofs.simulation.Programs.{words_follow_by, words_keep_by}
 
 pub merged_procedures_serve : ServesEverywhere merged_meaning merged_procs merged_numbers
@@ -76,13 +77,8 @@ module _ (setting : Setting) (l : Layout) (words : List ℕ) (procs : List Proc)
       follows_by_weaken (StorageIsWhole setting l) Any
       (λ shown counts x. (
         x.0,
-        record {
-          objects_stand = x.1.objects_stand;
-          statics_stand = x.1.statics_stand;
-          ends = x.1.ends;
-          fits = x.1.fits;
-          whole = x.1.keeps;
-        },
+        filled_of setting l counts.wraps x.0
+            (record { memory = shown.memory; alloc = shown.alloc; words = shown.words }) x.1,
       )) (λ shown counts x. tt)
       (words_follow_by merged_meaning merged_laws merged_procs merged_numbers merged_procedures_serve setting l words
       procs entry answer memory told casts input is small labels row types typed held closed narrow never)

@@ -1,7 +1,7 @@
 -- What the laws on cells of the merged scheme share: states and storage as both sides see them, and the store's cells.
 use Rattle.std.proofs.Common.{◌≡◌, ◌⊎◌, inl, inr, ℕ, zero, suc, ◌+◌, ◌^◌, ◌<◌, ◌≤◌, Bool, true}
 use Rattle.std.proofs.Common.{false, List, [], ◌∷◌, length, Some, None, refl, sym, ap, ◌∙◌, subst, arith, slice_get}
-use Rattle.std.specs.Prelude.{if◌then◌else◌}
+use Rattle.std.specs.Prelude.{if◌then◌else◌, ℤ, Option}
 use Rattle.grift_base.specs.declared.environment.TheConstants.{BLAME_CALL}
 use Rattle.grift_base.specs.declared.verdicts.Trap.{Trap}
 use Rattle.grift_base.specs.declared.verdicts.Verdict.TheVariants.{Trap as TrapVerdict}
@@ -13,19 +13,26 @@ use Rattle.object_layout.specs.declared.kinds.Kind.TheVariants.{Boxed, Vector}
 use Rattle.object_layout.specs.Kinds.{kind_number}
 use Rattle.coercion_norm.specs.Coercions.{Coercion}
 use Rattle.cast_modes.specs.Modes.{TypeCast}
+use Rattle.cast_modes.specs.Prices.{Cost}
 use Rattle.cast_modes.specs.RunValues.{RunLoc, in_row}
+use Rattle.cast_modes.specs.ValueSteps.{element_or_trap, run_with_element}
 use Rattle.coercion_norm.specs.Objects.{Object, Cell}
 use Rattle.coercion_norm.specs.ObjectsOfRows.{header}
-use Rattle.coercion_norm.specs.Held.{Layout}
+use Rattle.coercion_norm.specs.Held.{Layout, TypesStand}
+use Rattle.coercion_norm.specs.MergedMode.{merging}
 use Rattle.coercion_norm.proofs.Public.{found_within}
 use Rattle.flat_ir.specs.Bodies.{Proc}
-use Rattle.flat_ir.specs.Machine.{FlatValue, FlatStore}
-use Rattle.rt_cast.specs.States.{Heap, Placed, Filled as RtFilled, heap_of}
+use Rattle.flat_ir.specs.FlatTally.{act_cost}
+use Rattle.coer_core.specs.TurnPrices.{merged_prices}
+use Rattle.flat_ir.specs.Machine.{FlatValue, FlatFrame, FlatStore, FlatAfter, flat_arity, flat_entered}
+use Rattle.rt_cast.specs.Procs.{Stand}
+use Rattle.rt_cast.specs.States.{Heap, IsReady, Placed, Filled as RtFilled, heap_of}
 use Rattle.lower.specs.CellLaws.{TrapsAt, CellStands, CellInRegion}
+use Rattle.lower.specs.Keeping.{FitsMeasures}
 use Rattle.lower.specs.MergedMeaning.{merged_meaning}
 use Rattle.lower.specs.Storage.{Filled}
 use Rattle.lower.specs.CarriedValues.{CarriedIn, AreCarried, CellHeld}
-use Rattle.lower.specs.SchemeLaws.{StopsNow}
+use Rattle.lower.specs.SchemeLaws.{Here, StopsNow}
 use Rattle.lower.proofs.heap.Cells.{cell_of, there_is}
 use Rattle.lower.proofs.heap.Objects.{none_some, same_some}
 use Rattle.lower.proofs.words.Steps.{lt_true}
@@ -59,7 +66,7 @@ past_element [] i le = refl
 past_element (x ∷ xs) zero le = absurd (let z : ⊥ = omega (arith, le) in z)
 past_element (x ∷ xs) (suc i) le = past_element xs i (omega (arith, le))
 
-module _ (setting : Setting) (l : Layout) (procs : List Proc) (casts : List TypeCast) (m : Measures) where
+module _ (setting : Setting) (l : Layout) where
   -- ---- storage
 
   pub filled_as : (n : ℕ) (os : List Object) (h : Heap) → RtFilled setting l os h
@@ -82,13 +89,14 @@ module _ (setting : Setting) (l : Layout) (procs : List Proc) (casts : List Type
     whole = f.keeps;
   }
 
+module _ (setting : Setting) (l : Layout) (procs : List Proc) (casts : List TypeCast) (m : Measures) where
   -- ---- where it ends
 
   -- a trap
   pub trap_stops : (s : LowState) (n : ℕ) (trap : Trap) (t : LowState) → TrapsAt ending_of setting l s trap t
       → StopsNow merged_meaning setting l procs casts m s n (EndsWith (TrapVerdict trap)) t
   trap_stops s n trap t x =
-      let f = filled_as n x.objects (heap_of t) x.fine.filled in
+      let f = filled_as setting l n x.objects (heap_of t) x.fine.filled in
       record {
         last = x.last;
         stops = x.stops;
@@ -115,8 +123,8 @@ module _ (setting : Setting) (l : Layout) (procs : List Proc) (casts : List Type
         calls_blame label 0 (length setting.labels) t.world
         ∙ ap (λ z. record { effect = if z then Blamed label else Refused; world = t.world }) inside in
         ap (λ z. code_step ending_of setting z t) b.code ∙ rw (x, y, one, two, called, found_it) refl);
-    here = (b.new, filled_as n b.new (heap_of t) b.fine.filled);
-    after = (b.new, filled_as n b.new (heap_of t) b.fine.filled);
+    here = (b.new, filled_as setting l n b.new (heap_of t) b.fine.filled);
+    after = (b.new, filled_as setting l n b.new (heap_of t) b.fine.filled);
     same = b.same;
     same_after = b.same;
   }
@@ -197,3 +205,69 @@ module _ (setting : Setting) (l : Layout) (procs : List Proc) (casts : List Type
       short alloc ends fits =
           let z = found_within objects l.region a (Cell held.head (length held.words)) held.is in
           omega (arith, z.high, ends, fits, placed.top)
+
+-- ---- where a procedure begins
+
+-- what is told of the state in which a procedure that reads, writes or gives a part begins: what runs are told, the
+-- procedures of casts, and the storage, the store and the frames behind it
+pub record Situation (setting : Setting) (l : Layout) (procs : List Proc) (casts : List TypeCast) (m : Measures)
+    : Type 0 where
+  pub measured : FitsMeasures l m
+  pub first : ℕ
+  pub placed : Placed setting l
+  pub types : TypesStand l
+  pub tallest : l.tallest ≤ 65534
+  pub ready : Stand setting.procs first
+  pub s : LowState
+  pub number : ℕ
+  pub places : List ℕ
+  pub objects : List Object
+  pub store : FlatStore Coercion
+  pub here : Here merged_meaning setting l procs casts m places objects store number (heap_of s)
+  pub base : List (FlatFrame Coercion)
+
+-- what its laws speak of: that storage is as casts need it, and they are ready, the price of an act, which words stand
+-- for values, and what the numbered procedures do with an element that may be there, or with that of a number
+pub record Speech (setting : Setting) (l : Layout) (first : ℕ) (objects : List Object) (s : LowState) : Type 1 where
+  pub rt_filled : RtFilled setting l objects (heap_of s)
+  pub is_ready : IsReady setting l first
+  pub acting : Cost
+  pub C : FlatValue Coercion → ℕ → Type 0
+  pub Cs : List (FlatValue Coercion) → List ℕ → Type 0
+  pub element_here : Option (FlatValue Coercion) → ℕ → (ℕ → FlatValue Coercion → FlatAfter Coercion)
+      → FlatAfter Coercion
+  pub with_element : List (FlatValue Coercion) → ℤ → (ℕ → FlatValue Coercion → FlatAfter Coercion)
+      → FlatAfter Coercion
+
+module _ (setting : Setting) (l : Layout) (procs : List Proc) (casts : List TypeCast) (m : Measures) where
+  abbrev pub situated : FitsMeasures l m → (first : ℕ) → Placed setting l → TypesStand l → l.tallest ≤ 65534
+      → Stand setting.procs first → (s : LowState) (number : ℕ) (places : List ℕ) (objects : List Object)
+      (store : FlatStore Coercion)
+      → Here merged_meaning setting l procs casts m places objects store number (heap_of s)
+      → List (FlatFrame Coercion) → Situation setting l procs casts m
+  situated measured first placed types tallest ready s number places objects store here base = record {
+    measured = measured;
+    first = first;
+    placed = placed;
+    types = types;
+    tallest = tallest;
+    ready = ready;
+    s = s;
+    number = number;
+    places = places;
+    objects = objects;
+    store = store;
+    here = here;
+    base = base;
+  }
+
+  abbrev pub speech : (x : Situation setting l procs casts m) → Speech setting l x.first x.objects x.s
+  speech x = record {
+    rt_filled = filled_of setting l x.number x.objects (heap_of x.s) x.here.filled;
+    is_ready = record { placed = x.placed; stand = x.ready; types = x.types };
+    acting = act_cost procs (merging l.types casts) (merged_prices l.types (merging l.types casts) m);
+    C = C setting l procs casts m x.places x.objects;
+    Cs = Cs setting l procs casts m x.places x.objects;
+    element_here = element_or_trap (merging l.types casts) (flat_arity procs) (flat_entered procs) x.store x.s.world;
+    with_element = run_with_element (merging l.types casts) (flat_arity procs) (flat_entered procs) x.store x.s.world;
+  }

@@ -24,8 +24,7 @@ use Rattle.coercion_norm.specs.MergedMode.{merging, cell_coercion}
 use Rattle.cast_modes.specs.RunValues.{RunInt, RunBool, RunUnit, RunFun, RunTuple, RunLoc, RunWrap, RunInject}
 use Rattle.cast_modes.specs.RunValues.{in_row}
 use Rattle.cast_modes.specs.ValueSteps.{Return, On, TrapOf, NoNext, CastFrame, PrimFrame, on_some}
-use Rattle.cast_modes.specs.ValueSteps.{element_or_trap}
-use Rattle.cast_modes.specs.ValueSteps.{run_with_element, run_writes_cell}
+use Rattle.cast_modes.specs.ValueSteps.{run_writes_cell}
 use Rattle.coercion_norm.specs.Objects.{Object, Fixed, Cell, object_at}
 use Rattle.coercion_norm.specs.ObjectsOfRows.{header}
 use Rattle.coercion_norm.specs.Held.{Layout, TypesStand, There}
@@ -33,13 +32,12 @@ use Rattle.coercion_norm.proofs.Public.{object_kept, found_within}
 use Rattle.flat_ir.specs.Bodies.{Proc}
 use Rattle.flat_ir.specs.FlatTally.{act_cost}
 use Rattle.coer_core.specs.TurnPrices.{merged_prices}
-use Rattle.cast_modes.specs.Prices.{Cost}
-use Rattle.flat_ir.specs.Machine.{FlatValue, FlatFrame, FlatStore, FlatAfter, flat_operate, flat_arity, flat_entered}
+use Rattle.flat_ir.specs.Machine.{FlatValue, FlatFrame, FlatAfter, flat_operate, flat_arity, flat_entered}
 use Rattle.rt_cast.specs.ComposeCodes.{cast}
 use Rattle.rt_cast.specs.LightCasts.{cast_words_of, cast_price_of}
 use Rattle.rt_cast.specs.Objects.{HoldsWords}
 use Rattle.rt_cast.specs.Procs.{Stand}
-use Rattle.rt_cast.specs.States.{Placed, IsReady, Filled as RtFilled, Within, heap_of}
+use Rattle.rt_cast.specs.States.{Placed, Within, heap_of}
 use Rattle.rt_cast.specs.Carried.{IsVery, Carries}
 use Rattle.rt_cast.specs.MergedValues.{Merged, Base, Solid, Proxied, InDyn, Outcome, Stuck, Gives, Blames, cast_value}
 use Rattle.rt_cast.specs.MergedValues.{then_outcome}
@@ -67,7 +65,7 @@ use Rattle.lower.proofs.merging.Turns.{cell_part_normal, Ends, ends_cast, skips}
 use Rattle.lower.proofs.merging.States.{element_past, past_element, as_many, element}
 use Rattle.lower.proofs.words.Arithmetic.{positive_is, negative_is}
 use Rattle.lower.proofs.merging.States.{blame_stops}
-use Rattle.lower.proofs.merging.States.{filled_of, filled_as, held, stands, short}
+use Rattle.lower.proofs.merging.States.{Situation, situated, speech, filled_as, held, stands, short}
 use Rattle.lower.proofs.merging.States.{in_region, counted}
 
 -- ---- a word of a list, and an element of a cell
@@ -90,28 +88,20 @@ fixed_or_cell : (x y : ℕ) (ws : List ℕ) (n : ℕ) → Fixed x ws ≡ Cell y 
 fixed_or_cell x y ws n e = cc
 
 module _ (setting : Setting) (l : Layout) (procs : List Proc) (casts : List TypeCast) (m : Measures)
-    (measured : FitsMeasures l m) (first : ℕ) (placed : Placed setting l) (types : TypesStand l)
-    (tallest : l.tallest ≤ 65534) (ready : Stand setting.procs first) (region : l.region ≡ setting.region)
-    (s : LowState) (number : ℕ) (places : List ℕ) (objects : List Object) (store : FlatStore Coercion)
-    (here : Here merged_meaning setting l procs casts m places objects store number (heap_of s))
-    (base : List (FlatFrame Coercion)) where
-  rt_filled : RtFilled setting l objects (heap_of s)
-  rt_filled = filled_of setting l procs casts m number objects (heap_of s) here.filled
-
-  is_ready : IsReady setting l first
-  is_ready = record { placed = placed; stand = ready; types = types }
-
-  abbrev Cs : List (FlatValue Coercion) → List ℕ → Type 0
-  Cs vs ws = AreCarried l setting.address procs merged_meaning places objects (in_row vs) ws
-
-  abbrev C : FlatValue Coercion → ℕ → Type 0
-  C v w = CarriedIn l setting.address procs merged_meaning places objects v [] w
+    (situation : Situation setting l procs casts m) (region : l.region ≡ setting.region) where
+  open situation use {measured, first, placed, types, tallest, ready, s, number, places, objects, store, here, base}
+  open (speech setting l procs casts m situation) use {
+    rt_filled,
+    is_ready,
+    acting,
+    C,
+    Cs,
+    element_here,
+    with_element,
+  }
 
   abbrev deep : ℕ
   deep = 4 * l.tallest + 7
-
-  abbrev acting : Cost
-  acting = act_cost procs (merging l.types casts) (merged_prices l.types (merging l.types casts) m)
 
   abbrev aim : Aim merged_meaning setting l procs casts m
   aim focus frames store' n left t =
@@ -317,7 +307,7 @@ module _ (setting : Setting) (l : Layout) (procs : List Proc) (casts : List Type
 
         full : Filled merged_meaning setting l n new (heap_of t)
         full = subst (λ os. Filled merged_meaning setting l n os (heap_of t)) g.grows.is
-            (filled_as setting l procs casts m n g.new (heap_of t) g.filled)
+            (filled_as setting l n g.new (heap_of t) g.filled)
 
         carried_u : CarriedIn l setting.address procs merged_meaning places new u [] g.word
         carried_u =
@@ -442,16 +432,6 @@ module _ (setting : Setting) (l : Layout) (procs : List Proc) (casts : List Type
           like.0 like.1 refl refl te begins (cast_fits l m measured 147 0 d like.0 896 (omega arith) (omega arith)) n
 
   -- ---- elements of vectors
-
-  abbrev element_here : Option (FlatValue Coercion) → ℕ → (ℕ → FlatValue Coercion → FlatAfter Coercion)
-      → FlatAfter Coercion
-  element_here o i go =
-      element_or_trap (merging l.types casts) (flat_arity procs) (flat_entered procs) store s.world o i go
-
-  abbrev with_element : List (FlatValue Coercion) → ℤ → (ℕ → FlatValue Coercion → FlatAfter Coercion)
-      → FlatAfter Coercion
-  with_element values z go =
-      run_with_element (merging l.types casts) (flat_arity procs) (flat_entered procs) store s.world values z go
 
   -- of a vector in the store, told what is done with the element
   module _ (cell : ℕ) (values : List (FlatValue Coercion)) (in_store : slice_get store cell ≡ Some values) (a : ℕ)
@@ -900,8 +880,9 @@ module _ (setting : Setting) (l : Layout) (procs : List Proc) (casts : List Type
       (λ ws. 1 ∷ at_or_zero ws 0 ∷ at_or_zero ws 1 ∷ at_or_zero ws 2 ∷ [])
   merged_writes = record {
     does = λ s number places objects store here base vs ws c handed.
-        writes_for setting l procs casts m measured first placed types tallest ready region s number places objects
-        store here base vs ws c;
+        writes_for setting l procs casts m
+        (situated setting l procs casts m measured first placed types tallest ready s number places objects store here
+        base) region vs ws c;
   }
 
   pub merged_sets : OperatorDone merged_meaning setting l procs casts m run BoxSet (write_proc (cast first))
@@ -912,7 +893,8 @@ module _ (setting : Setting) (l : Layout) (procs : List Proc) (casts : List Type
         (flat_operate procs (merging l.types casts) store s.world BoxSet xs base)
         (act_cost procs (merging l.types casts) (merged_prices l.types (merging l.types casts) m)) number 0
         (entered s (write_proc (cast first)) (0 ∷ at_or_zero ws 0 ∷ 0 ∷ at_or_zero ws 1 ∷ []))) (sym handed.3)
-        (sets_for setting l procs casts m measured first placed types tallest ready region s number places objects store
-        here base handed.0 handed.1 handed.2 ws
+        (sets_for setting l procs casts m
+        (situated setting l procs casts m measured first placed types tallest ready s number places objects store here
+        base) region handed.0 handed.1 handed.2 ws
         (subst (λ xs. AreCarried l setting.address procs merged_meaning places objects (in_row xs) ws) handed.3 c));
   }

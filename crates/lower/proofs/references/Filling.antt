@@ -38,8 +38,7 @@ use Rattle.rt_cast.specs.Objects.{HasWord, HoldsWords}
 use Rattle.rt_cast.specs.States.{Heap, Fine, Filled, Placed, OnTheWay, Within as IsWithin, around, heap_of, st}
 use Rattle.rt_cast.specs.WholeObjects.{WholeOther}
 use Rattle.rt_cast.proofs.Public.{eq_true, eq_false, holds_append, holds_same, wholes_more}
-use Rattle.object_layout.specs.Words.{count_shift, word_shift}
-use Rattle.rt_refs.specs.FillCodes.{fill_loop, fill_code, fill_proc, trap_length}
+use Rattle.rt_refs.specs.FillCodes.{fill_loop, fill_code, fill_proc, trap_length, fill_words}
 use Rattle.lower.specs.FillLaws.{MadeAt, ComesToVector}
 use Rattle.lower.specs.CellLaws.{TrapsAt, ComesWhere}
 use Rattle.lower.proofs.references.CellSteps.{may_be_stored, le_true, le_cases}
@@ -192,15 +191,7 @@ module _ {V : Type 0} (reading : Halt → Ending V) (setting : Setting) (s : Low
 
   -- what is done once there is room
   abbrev filling : Code
-  filling =
-      Compute Sll 4 (Word 0) (Number count_shift) (
-      Compute Add 4 (Word 4) (Number (kind_number Vector)) (
-      Store (Word 4) (Word 3) 0 (
-      Compute Add 4 (Word 3) (Number 8) (
-      Compute Sll 5 (Word 0) (Number word_shift) (
-      Compute Add 5 (Word 4) (Word 5) (
-      Call 4 own (Word 4 ∷ Word 5 ∷ Word 1 ∷ []) (
-      Take (Word 2) (Return (Word 3)))))))))
+  filling = fill_words own
 
   -- where there is room
   module _ (room : s.alloc + 8 * (n + 1) ≤ setting.top) where

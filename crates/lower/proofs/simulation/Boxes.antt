@@ -53,7 +53,7 @@ use Rattle.lower.proofs.simulation.Way.{Program, Way, Follows, next_state, scene
 use Rattle.lower.proofs.simulation.Way.{asks_of, budget_of}
 use Rattle.lower.proofs.simulation.Gives.{CarriedHere, RestHere, CallersHere, given, word_for, code_for}
 use Rattle.lower.proofs.simulation.Gives.{Fitting, due_for}
-use Rattle.lower.proofs.simulation.Operations.{settle, room, word_less, put, due_little}
+use Rattle.lower.proofs.simulation.Operations.{settle, room, put, due_little, giving}
 use Rattle.lower.proofs.simulation.Services.{kept_in_front}
 use Rattle.lower.proofs.simulation.Applied.{and_more_parts}
 use Rattle.lower.proofs.simulation.Parts.{one_word}
@@ -75,19 +75,8 @@ module _ (program : Program) (typed : TypesStand program.l)
     count size group depth locals words (Give operation))
     (rest : RestHere program places objects waiting s count size group depth f.frames next rests words)
     (six : s.params ≤ 6) (enough : 500 ≤ budget_of program f) where
-  wide : s.params + 10 ≤ size
-  wide = room program typed f places objects h filled cells waiting size rests words s count depth group locals
-      operation next fits rest
-
-  less : word_for program places objects s next < size
-  less = word_less program typed f places objects h filled cells waiting size rests words s count depth group locals
-      operation next fits rest
-
-  abbrev d : ℕ
-  d = word_for program places objects s next
-
-  abbrev k : Code
-  k = code_for program places objects s next
+  open (giving program typed f places objects h filled cells waiting size rests words s count depth group locals
+      operation next fits rest) use {wide, d, less, k}
 
   abbrev start_of : PrimOp → List Operand → LowState
   start_of op os = at f.world h waiting size rests words (perform program.run s d (Prim op os) k)

@@ -52,7 +52,7 @@ use Rattle.lower.proofs.simulation.Way.{Program, mode_of, prices_of, next_state,
 use Rattle.lower.proofs.simulation.Way.{due_is, room_over, stays_in}
 use Rattle.lower.proofs.simulation.Way.{waiting_dues}
 use Rattle.lower.proofs.simulation.Gives.{RestHere, word_for, code_for}
-use Rattle.lower.proofs.simulation.Operations.{room, word_less}
+use Rattle.lower.proofs.simulation.Operations.{room, giving}
 use Rattle.lower.proofs.simulation.Served.{silent_after}
 use Rattle.lower.specs.SchemeLaws.{After, Goes, Returns, GivesInPlace, cast_leaves}
 use Rattle.lower.proofs.simulation.Services.{OnTurn, Landing, Calling, Served, calling_goal, starting_goal, some_calls}
@@ -92,11 +92,8 @@ module _ (program : Program) (typed : TypesStand program.l)
     count size group depth locals words (Give (Cast o number)))
     (rest : RestHere program places objects waiting s count size group depth f.frames next rests words)
     (six : s.params ≤ 6) where
-  abbrev d : ℕ
-  d = word_for program places objects s next
-
-  abbrev k : Code
-  k = code_for program places objects s next
+  open (giving program typed f places objects h filled cells waiting size rests words s count depth group locals
+      (Cast o number) next fits rest) use {wide, d, less, k}
 
   abbrev a : LowSource
   a = found s (operand_word s 0) o
@@ -114,14 +111,6 @@ module _ (program : Program) (typed : TypesStand program.l)
   abbrev pub casts_to : Option program.meaning.Cast → FlatAfter program.meaning.Cast
   casts_to row =
       on_some row (λ c. flat_cast program.procs (mode_of program) f.store f.world (value locals group o) c f.frames)
-
-  wide : s.params + 10 ≤ size
-  wide = room program typed f places objects h filled cells waiting size rests words s count depth group locals
-      (Cast o number) next fits rest
-
-  less : word_for program places objects s next < size
-  less = word_less program typed f places objects h filled cells waiting size rests words s count depth group locals
-      (Cast o number) next fits rest
 
   -- where there is such a row, its cast is made
   module _ (c : program.meaning.Cast) (e : (mode_of program).row number ≡ Some c)

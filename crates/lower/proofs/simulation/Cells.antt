@@ -39,7 +39,7 @@ use Rattle.lower.proofs.words.Operations.{Touches, not_computed}
 use Rattle.lower.proofs.simulation.Way.{Program, mode_of, prices_of, next_state, cost_of, waiting_dues, due_same}
 use Rattle.lower.proofs.simulation.Way.{room_over, stays_in}
 use Rattle.lower.proofs.simulation.Gives.{RestHere, word_for, code_for}
-use Rattle.lower.proofs.simulation.Operations.{room, word_less}
+use Rattle.lower.proofs.simulation.Operations.{giving}
 use Rattle.lower.proofs.simulation.Served.{silent_after}
 use Rattle.lower.proofs.simulation.Services.{Calling, Served, called, caller, is_served, lower_floor, calls_now}
 use Rattle.lower.proofs.simulation.Casts.{serving_scene, as_it_was}
@@ -70,13 +70,8 @@ module _ (program : Program) (typed : TypesStand program.l)
     count size group depth locals words (Give (Prim operator os)))
     (rest : RestHere program places objects waiting s count size group depth f.frames next rests words)
     (six : s.params ≤ 6) where
-  wide : s.params + 10 ≤ size
-  wide = room program typed f places objects h filled cells waiting size rests words s count depth group locals
-      (Prim operator os) next fits rest
-
-  less : word_for program places objects s next < size
-  less = word_less program typed f places objects h filled cells waiting size rests words s count depth group locals
-      (Prim operator os) next fits rest
+  open (giving program typed f places objects h filled cells waiting size rests words s count depth group locals
+      (Prim operator os) next fits rest) use {wide, d, less, k}
 
   bound : operands_bound s.captured count depth os ≡ true
   bound = (and_true (operands_bound s.captured count depth os) (nat_le (length os) 8) fits.bound).0
@@ -85,12 +80,6 @@ module _ (program : Program) (typed : TypesStand program.l)
   few =
       let z = (and_true (operands_bound s.captured count depth os) (nat_le (length os) 8) fits.bound).1 in
       grind (arith, z)
-
-  abbrev d : ℕ
-  d = word_for program places objects s next
-
-  abbrev k : Code
-  k = code_for program places objects s next
 
   abbrev floor : ℕ
   floor = code_price program.setting.procs size k + codes_price program.setting.procs size rests

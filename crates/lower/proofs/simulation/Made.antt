@@ -68,6 +68,12 @@ entry_there [] p rest (suc n) e = cc
 entry_there (x ∷ xs) p rest zero e = cc
 entry_there (x ∷ xs) p rest (suc n) e = entry_there xs p rest n (omega (arith, e))
 
+-- the run of the program over words follows that of the numbered procedures, and keeps within their account
+pub record Runs (meaning : Meaning) (layout : ℕ → Layout) (flat : FlatProgram) (types : TypeRows)
+    (casts : List TypeCast) (low : LowProgram) : Type 0 where
+  pub follows : MadeFollows meaning layout flat types casts low
+  pub keeps : MadeKeeps meaning layout flat types casts low
+
 module _ (meaning : Meaning) (laws : MeaningLaws meaning) (procs_from : ℕ → List LowProc) (numbers_from : ℕ → Served)
     (serves : ServesEverywhere meaning procs_from numbers_from) (layout : ℕ → Layout) (flat : FlatProgram)
     (types : TypeRows) (casts : List TypeCast) (low : LowProgram) (row : TypeRow) (number : ℕ)
@@ -136,7 +142,7 @@ module _ (meaning : Meaning) (laws : MeaningLaws meaning) (procs_from : ℕ → 
       let found = subst (λ ps. slice_get ps low.entry ≡ Some first) procs_are e in
       cc
 
-  pub made_follows : MadeFollows meaning layout flat types casts low
+  made_follows : MadeFollows meaning layout flat types casts low
   made_follows = λ setting memory first input loaded is_first never.
       let here = stand setting.region in
       subst (λ p. FollowsBy (λ shown counts. Passes meaning setting (layout setting.region) shown counts.wraps) Any
@@ -148,7 +154,7 @@ module _ (meaning : Meaning) (laws : MeaningLaws meaning) (procs_from : ℕ → 
       loaded.small refl row_is (sym here.types_are) here.types_stand here.cast_words closed
       (procedures_are_narrow procs narrow) never)
 
-  pub made_keeps : MadeKeeps meaning layout flat types casts low
+  made_keeps : MadeKeeps meaning layout flat types casts low
   made_keeps = λ setting memory first m most input loaded is_first fits sized never.
       let here = stand setting.region in
       subst (λ p. FollowsWithin (KeepsFlat setting (meaning.serving (layout setting.region)) most) PaysFlat
@@ -160,3 +166,6 @@ module _ (meaning : Meaning) (laws : MeaningLaws meaning) (procs_from : ℕ → 
       procs flat.entry row memory (told_in setting types flat.answer.0) casts m most input
       (is_lowered setting memory loaded) loaded.small refl row_is (sym here.types_are) here.types_stand fits
       here.cast_words closed (procedures_are_narrow procs narrow) sized never)
+
+  pub made_runs : Runs meaning layout flat types casts low
+  made_runs = record { follows = made_follows; keeps = made_keeps }

@@ -105,6 +105,14 @@ wrong_by program f own places objects h filled waiting size rests words code =
           ),
     )
 
+-- where an operation of a body gives its value: to which of the procedure's words, of which there are enough, and what
+-- is done behind it
+pub record Giving (size : ℕ) (s : Shape) : Type 0 where
+  pub wide : s.params + 10 ≤ size
+  pub d : ℕ
+  pub less : d < size
+  pub k : Code
+
 module _ (program : Program) (typed : TypesStand program.l) where
   module _ (places : List ℕ) (objects : List Object) (h : Heap) (world : WorldState)
       (filled : Filled program.meaning program.setting program.l program.number objects h)
@@ -181,6 +189,14 @@ module _ (program : Program) (typed : TypesStand program.l) where
         by_next ToCaller r = omega (arith, room)
         by_next (Into d k) r =
             word_fits program places objects waiting s count size group depth f.frames d k rests words r
+
+    abbrev pub giving : Giving size s
+    giving = record {
+      wide = room;
+      d = word_for program places objects s next;
+      less = word_less;
+      k = code_for program places objects s next;
+    }
 
     -- the turn comes to a value
     abbrev pub after : FlatValue program.meaning.Cast → FlatAfter program.meaning.Cast

@@ -71,7 +71,7 @@ use Rattle.lower.proofs.simulation.Way.{floor_of, above_floor}
 use Rattle.lower.proofs.simulation.Gives.{Fitting, due_for}
 use Rattle.lower.proofs.simulation.Operations.{due_little}
 use Rattle.lower.proofs.simulation.Gives.{CarriedHere, RestHere, given, word_for, code_for}
-use Rattle.lower.proofs.simulation.Operations.{settle, goes_wrong, room, word_less, put}
+use Rattle.lower.proofs.simulation.Operations.{settle, goes_wrong, word_less, put, giving}
 use Rattle.lower.proofs.words.Scene.{Scene}
 use Rattle.lower.proofs.simulation.ShownAnswers.{true_false}
 
@@ -148,11 +148,8 @@ module _ (program : Program) (typed : TypesStand program.l)
     size group depth locals words (Give (Prim op os)))
     (rest : RestHere program places objects waiting s count size group depth f.frames next rests words)
     (six : s.params ≤ 6) (few : length os ≤ 8) (enough : 500 ≤ budget_of program f) where
-  abbrev d : ℕ
-  d = word_for program places objects s next
-
-  abbrev k : Code
-  k = code_for program places objects s next
+  open (giving program typed f places objects h filled cells waiting size rests words s count depth group locals
+      (Prim op os) next fits rest) use {wide, d, k}
 
   all_bound : operands_bound s.captured count depth os ≡ true
   all_bound = (and_true (operands_bound s.captured count depth os) (nat_le (length os) 8) fits.bound).0
@@ -242,10 +239,6 @@ module _ (program : Program) (typed : TypesStand program.l)
   less_than_size : word_for program places objects s next < size
   less_than_size = word_less program typed f places objects h filled cells waiting size rests words s count depth group
       locals (Prim op os) next fits rest
-
-  wide : s.params + 10 ≤ size
-  wide = room program typed f places objects h filled cells waiting size rests words s count depth group locals
-      (Prim op os) next fits rest
 
   add : TwoInts Add (λ a b. On (Return (RunInt (int_wrap w64 (a +ℤ b)))) f.frames f.store f.world)
   add o p a b ea eb bound =

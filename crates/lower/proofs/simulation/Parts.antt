@@ -42,7 +42,7 @@ use Rattle.lower.proofs.words.Operations.{Touches, not_computed}
 use Rattle.lower.proofs.simulation.Way.{Program, mode_of, prices_of, next_state, cost_of, waiting_dues, due_same}
 use Rattle.lower.proofs.simulation.Way.{room_over, stays_in}
 use Rattle.lower.proofs.simulation.Gives.{CarriedHere, RestHere, word_for, code_for}
-use Rattle.lower.proofs.simulation.Operations.{room, word_less}
+use Rattle.lower.proofs.simulation.Operations.{giving}
 use Rattle.lower.proofs.simulation.Served.{silent_after}
 use Rattle.lower.proofs.simulation.Services.{Calling, Served, called, is_served, lower_floor, calls_now}
 use Rattle.lower.proofs.simulation.Casts.{serving_scene, as_it_was}
@@ -67,19 +67,8 @@ module _ (program : Program) (typed : TypesStand program.l)
     count size group depth locals words (Give operation))
     (rest : RestHere program places objects waiting s count size group depth f.frames next rests words)
     (bound : operand_bound s.captured count depth o ≡ true) (six : s.params ≤ 6) where
-  wide : s.params + 10 ≤ size
-  wide = room program typed f places objects h filled cells waiting size rests words s count depth group locals
-      operation next fits rest
-
-  less : word_for program places objects s next < size
-  less = word_less program typed f places objects h filled cells waiting size rests words s count depth group locals
-      operation next fits rest
-
-  abbrev d : ℕ
-  d = word_for program places objects s next
-
-  abbrev k : Code
-  k = code_for program places objects s next
+  open (giving program typed f places objects h filled cells waiting size rests words s count depth group locals
+      operation next fits rest) use {wide, d, less, k}
 
   abbrev a : LowSource
   a = found s (operand_word s 0) o

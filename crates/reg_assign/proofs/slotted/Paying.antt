@@ -85,35 +85,41 @@ module _ {V : Type 0} (program : Program V) where
           (c.pays (spent + price) total (omega (arith, h))));
     }
 
+    -- wherever the items behind it lie, the run comes there from a state that is otherwise this one
+    abbrev pub Behind : ℕ → State → List RealItem → Type 0
+    Behind most t xs =
+        (pc : ℕ) → At program (record t { pc = pc }) xs → Comes most (record t { pc = pc })
+
+    -- an item that changes the state but for its place, and goes on
+    passes : {most : ℕ} {s : State} {x : RealItem} {xs : List RealItem} (price : ℕ) (t : State)
+        (at : At program s (x ∷ xs)) (h : HasItem xs) → is_mark x ≡ false → real_price x ≡ price →
+        (running program).step s ≡ Go (record t { pc = (next_at program at h).pc }) → P s → Behind most t xs →
+        ComesOn (price + most) s
+    passes price t at h m costs e p go =
+        let next = next_at program at h in
+        goes price (record t { pc = next.pc }) at m costs e p (go next.pc (next.at (record t { pc = next.pc }) refl))
+
     -- an instruction that changes registers and memory and goes on
     pub op : {most : ℕ} {s : State} {i : Inst} {xs : List RealItem} (regs : Registers) (memory : Memory) →
         At program s (Op i ∷ xs) → HasItem xs →
         ((ecall ebreak : State → Turn) (pc : ℕ) → act_with ecall ebreak i (record s { pc = pc })
         ≡ Next (record s { regs = regs; memory = memory; pc = add pc 4 })) →
-        P s →
-        ((pc : ℕ) → At program (record s { regs = regs; memory = memory; pc = pc }) xs →
-        Comes most (record s { regs = regs; memory = memory; pc = pc })) →
-        ComesOn (suc most) s
+        P s → Behind most (record s { regs = regs; memory = memory }) xs → ComesOn (suc most) s
     op {most} {s} regs memory at h act p go =
-        let next = next_at program at h in
-        let t : State = record s { regs = regs; memory = memory; pc = next.pc } in
         comes_on_later (suc most) (omega arith)
-        (goes 1 t at refl refl (op_step_is program regs memory at h act) p (go next.pc (next.at t refl)))
+        (passes 1 (record s { regs = regs; memory = memory }) at h refl refl (op_step_is program regs memory at h act)
+        p go)
 
     -- an ECALL that goes on
     pub call : {most : ℕ} {s : State} {xs : List RealItem} (regs : Registers) (world : WorldState)
         (at : At program s (Op Ecall ∷ xs)) → HasItem xs →
         ((pc : ℕ) → program.setting.ecall at.place (record s { pc = pc })
         ≡ Next (record s { regs = regs; world = world; pc = add pc 4 })) →
-        P s →
-        ((pc : ℕ) → At program (record s { regs = regs; world = world; pc = pc }) xs →
-        Comes most (record s { regs = regs; world = world; pc = pc })) →
-        ComesOn (suc most) s
+        P s → Behind most (record s { regs = regs; world = world }) xs → ComesOn (suc most) s
     call {most} {s} regs world at h act p go =
-        let next = next_at program at h in
-        let t : State = record s { regs = regs; world = world; pc = next.pc } in
         comes_on_later (suc most) (omega arith)
-        (goes 1 t at refl refl (call_step_is program regs world at h act) p (go next.pc (next.at t refl)))
+        (passes 1 (record s { regs = regs; world = world }) at h refl refl (call_step_is program regs world at h act)
+        p go)
 
     -- a jump to a mark, which keeps the next item's address
     pub jump : {most : ℕ} {s : State} {rd mark : ℕ} {xs : List RealItem} (target : ℕ) →
@@ -129,11 +135,8 @@ module _ {V : Type 0} (program : Program V) where
     -- a branch that isn't taken, and one that is
     pub falls_through : {most : ℕ} {s : State} {cond : Cond} {a b mark : ℕ} {xs : List RealItem} →
         At program s (Branch cond a b mark ∷ xs) → HasItem xs → holds cond (reg s a) (reg s b) ≡ false → P s →
-        ((pc : ℕ) → At program (record s { pc = pc }) xs → Comes most (record s { pc = pc })) → ComesOn (11 + most) s
-    falls_through {s = s} at h test p go =
-        let next = next_at program at h in
-        let t : State = record s { pc = next.pc } in
-        goes 11 t at refl refl (fall_step_is program at h test) p (go next.pc (next.at t refl))
+        Behind most s xs → ComesOn (11 + most) s
+    falls_through {s = s} at h test p go = passes 11 s at h refl refl (fall_step_is program at h test) p go
 
     pub is_taken : {most : ℕ} {s : State} {cond : Cond} {a b mark : ℕ} {xs : List RealItem} (target : ℕ) →
         At program s (Branch cond a b mark ∷ xs) → holds cond (reg s a) (reg s b) ≡ true →
@@ -146,13 +149,10 @@ module _ {V : Type 0} (program : Program V) where
     pub puts_address : {most : ℕ} {s : State} {rd mark : ℕ} {xs : List RealItem} (target : ℕ) →
         At program s (Address rd mark ∷ xs) → HasItem xs →
         mark_address program.setting.address program.code mark ≡ Some target → P s →
-        ((pc : ℕ) → At program (record s { regs = set_reg rd target s.regs; pc = pc }) xs →
-        Comes most (record s { regs = set_reg rd target s.regs; pc = pc })) →
-        ComesOn (10 + most) s
+        Behind most (record s { regs = set_reg rd target s.regs }) xs → ComesOn (10 + most) s
     puts_address {s = s} {rd = rd} target at h there p go =
-        let next = next_at program at h in
-        let t : State = record s { regs = set_reg rd target s.regs; pc = next.pc } in
-        goes 10 t at refl refl (address_step_is program target at h there) p (go next.pc (next.at t refl))
+        passes 10 (record s { regs = set_reg rd target s.regs }) at h refl refl
+        (address_step_is program target at h there) p go
 
     -- a jump to the address in a register, which keeps the next item's address
     pub jumps_to : {most : ℕ} {s : State} {rd a : ℕ} {xs : List RealItem} (target : ℕ) →

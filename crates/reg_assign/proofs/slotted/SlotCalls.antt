@@ -194,20 +194,10 @@ module _ {V : Type 0} (w : Slotting V) where
       let small = low_fits in
       let at : (low + 0) % 2 ^ 64 ≡ low = omega arith in
       comes_there (program w) P Q (does (program w) P Q s4 regs3 memory1 c4 (has_rest w f f.home)
-      (λ ecall ebreak pc. stores w s4 1 2 low 0 pc ecall ebreak b.layout at made.stack.0.aligned (omega arith)
+      (λ ecall ebreak pc. stores w s4 1 2 low 0 pc ecall ebreak b.layout at (made s.pc).stack.0.aligned (omega arith)
       (omega arith)) (way_second w t t1 s4 (seen4 n4)) (λ n5 c5.
       is_there (program w) P Q (record {
-        body = record {
-          regs = made.regs;
-          limit = made.limit;
-          memory = made.memory;
-          world = made.world;
-          layout = made.layout;
-          fits = made.fits;
-          bytes = made.bytes;
-          above = made.above;
-          stack = made.stack;
-        };
+        body = made n5;
         home = f_home;
         code = c5;
       }))))
@@ -268,8 +258,8 @@ module _ {V : Type 0} (w : Slotting V) where
             let x = b.above in let g = fit in omega (arith, e));
       }
 
-      made : Body w t1 (record s { regs = regs3; memory = memory1 })
-      made =
+      made : (pc : ℕ) → Body w t1 (record s { regs = regs3; memory = memory1; pc = pc })
+      made pc =
           let x = b.above in
           let y = high.0 in
           let g = fit in
@@ -487,16 +477,22 @@ module _ {V : Type 0} (w : Slotting V) where
       (has_rest w t.active.found (suc t.pc)) a.is_address (way_first w t t1 s (seen_of w t s on.body)) (λ m c.
       linked most t s on.home a.pc m f t1 Q s.regs (same_state t s on.body) enters a.stands c)))
 
+  -- the procedure at an address, with its code there
+  pub entered_at : (s : State) (at : ℕ) (f : Found) → procedure_at w.told at 0 w.items ≡ Some f
+      → (k : ℕ) × Begins w k f × Stand w at (enter_items w f.count ++ rest_of w f f.home)
+  entered_at s at f e =
+      let z = found_address w at f e in
+      let b = begins_at w s z.0 f z.1 in
+      let same : b.pc ≡ at = sym (told_address w z.0 b.pc f z.1 b.is_address) ∙ z.2 in
+      (z.0, z.1, subst (λ x. Stand w x (enter_items w f.count ++ rest_of w f f.home)) same b.stands)
+
   pub do_call_at : (t : VirtualState) (s : State) (on : On w t s) (a : VReg) (n : ℕ)
       → slice_get w.items t.pc ≡ Some (CallAt a n)
       → SimItem w t s (CallAt a n)
   do_call_at t s on a n here =
       sim_given w _ t t s (value t a) _ (λ at ae. sim_given w _ t t s (procedure_at w.told at 0 w.items) _ (λ f e.
-      let z = found_address w at f e in
-      let b = begins_at w s z.0 f z.1 in
-      let same : b.pc ≡ at = sym (told_address w z.0 b.pc f z.1 b.is_address) ∙ z.2 in
-      let code : Stand w at (enter_items w f.count ++ rest_of w f f.home) =
-      subst (λ x. Stand w x (enter_items w f.count ++ rest_of w f f.home)) same b.stands in
+      let z = entered_at s at f e in
+      let code : Stand w at (enter_items w f.count ++ rest_of w f f.home) = z.2 in
       let rest : List RealItem = rest_of w t.active.found (suc t.pc) in
       let last : List RealItem = Op (Jalr 1 (register_for 28 a) (pos 0)) ∷ [] in
       sim_enter (register_price t.active.found.first a + 1) t t s z.0 n (suc t.pc) f z.1 refl

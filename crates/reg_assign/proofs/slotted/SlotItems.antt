@@ -24,6 +24,7 @@ use Rattle.machine_words.specs.Arithmetic.{shift_right_signed}
 use Rattle.rv_machine.specs.Turn.{act_with}
 use Rattle.machine_words.proofs.Public.{load_below, load_same, stored_outside}
 use Rattle.rv_machine.proofs.Public.{has_item-append}
+use Rattle.rv_select.proofs.Public.{with_few}
 use Rattle.low_ir.specs.declared.code.WordOp.{WordOp}
 use Rattle.low_ir.specs.declared.code.WordOp.TheVariants.{Add, Sub, And, Or, Xor, Sll, Srl, Sra, Slt, Sltu}
 use Rattle.low_ir.specs.Operations.{compute}
@@ -116,18 +117,6 @@ with_does Slt rd a n s ecall ebreak h =
     let few : n < 2048 = grind arith in
     ap (λ z. put rd (flag (int_lt (cast_signed w64 (reg s a)) z)) s) (sym (signed_small n few))
 with_does Sltu rd a n s ecall ebreak h = refl
-
-with_small : (o : WordOp) (n : ℕ) → fits_item o n ≡ true → n < 2 ^ 64
-with_small Add n h = grind arith
-with_small Sub n h = grind arith
-with_small And n h = grind arith
-with_small Or n h = grind arith
-with_small Xor n h = grind arith
-with_small Sll n h = grind arith
-with_small Srl n h = grind arith
-with_small Sra n h = grind arith
-with_small Slt n h = grind arith
-with_small Sltu n h = grind arith
 
 get_fits : (r : ℕ) (regs : Registers) → ((q : ℕ) → regs q < 2 ^ 64) → get_reg regs r < 2 ^ 64
 get_fits r regs h = pick (r == 0)
@@ -353,7 +342,7 @@ module _ {V : Type 0} (w : Slotting V) where
           ∙ ap (λ z. put rd1 (compute o z n) (record s1 { pc = pc })) f1.there)
           (way_first w t t1 s1 (seen_of w t s1 f1.body)) (λ m c2.
           saved w t s1 rd word m f1.body on.home permit
-          (compute_fits o x n (fetched_fits t s s1 28 a x f1) (with_small o n h)) c2))
+          (compute_fits o x n (fetched_fits t s s1 28 a x f1) (with_few o n h)) c2))
 
   -- a register that may be written, and isn't the allocation word
   apart_from : (q r : ℕ) → may_write r ≡ true → (r == 26) ≡ false → (q == 2) ≡ true ⊎ ((q == 25) ≡ true

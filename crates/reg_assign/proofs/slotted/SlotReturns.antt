@@ -34,10 +34,9 @@ use Rattle.reg_assign.proofs.slotted.Frames.{has_room, Seen, seen_of, seen_still
 use Rattle.reg_assign.proofs.slotted.SlotWords.{loads, when_readable, Fetched, fetch}
 use Rattle.reg_assign.proofs.slotted.SlotPrices.{entering_most, given_up_for}
 use Rattle.reg_assign.proofs.slotted.SlotItems.{code_of, room, Sim, SimItem, sim_given, sim_go}
-use Rattle.reg_assign.proofs.slotted.SlotMarks.{zero_lost, zero_fits, enter_items, found_number, found_address}
+use Rattle.reg_assign.proofs.slotted.SlotMarks.{zero_lost, zero_fits, enter_items, found_number}
 use Rattle.reg_assign.proofs.slotted.SlotMarks.{begins_at}
-use Rattle.reg_assign.proofs.slotted.SlotMarks.{told_address}
-use Rattle.reg_assign.proofs.slotted.SlotCalls.{Enters, entered, sim_enter, entered_price}
+use Rattle.reg_assign.proofs.slotted.SlotCalls.{Enters, entered, entered_at, sim_enter, entered_price}
 
 not_link : (q : ℕ) → may_read q ≡ true → (q == 1) ≡ false
 not_link q h = grind arith
@@ -140,16 +139,7 @@ module _ {V : Type 0} (w : Slotting V) where
               above = omega arith;
               stack = k.1;
             };
-            seen = record {
-              memory = seen.memory;
-              stack = seen.stack;
-              alloc = seen.alloc;
-              top = seen.top;
-              world = seen.world;
-              layout = seen.layout;
-              above = omega arith;
-              used = let e = stack_is w s.memory sp t.active t.frames b.stack in omega (arith, e);
-            };
+            seen = (let e = stack_is w s.memory sp t.active t.frames b.stack in search arith);
             link = subst (λ a. Stand w a (rest_of w f.active.found f.back)) (sym (only 1 refl)) k.0.back;
             home = k.0.home;
             same = kept_all;
@@ -300,11 +290,8 @@ module _ {V : Type 0} (w : Slotting V) where
       by_frames [] e = tt
       by_frames (f ∷ fs) e =
           sim_given w _ t t s (value t a) _ (λ at ae. sim_given w _ t t s (procedure_at w.told at 0 w.items) _ (λ g ge.
-          let z = found_address w at g ge in
-          let b = begins_at w s z.0 g z.1 in
-          let same : b.pc ≡ at = sym (told_address w z.0 b.pc g z.1 b.is_address) ∙ z.2 in
-          let code : Stand w at (enter_items w g.count ++ rest_of w g g.home) =
-          subst (λ x. Stand w x (enter_items w g.count ++ rest_of w g g.home)) same b.stands in
+          let z = entered_at w s at g ge in
+          let code : Stand w at (enter_items w g.count ++ rest_of w g g.home) = z.2 in
           let rest : List RealItem = rest_of w t.active.found (suc t.pc) in
           let u : VirtualState = without t f fs in
           let last : List RealItem = Op (Jalr 0 (register_for 29 a) (pos 0)) ∷ [] in

@@ -1,24 +1,24 @@
 -- The machine that runs the code with slots follows the virtual run.
 use Rattle.std.proofs.Common.{ℕ, ◌^◌, ◌<◌, ◌≤◌, ◌≡◌, ◌≢◌, List, Some, refl, sym, subst}
 use Rattle.std.specs.Prelude.{slice_get}
-use Rattle.run_laws.specs.Runs.{Ending, Wrong, Exhausted, NeverWrong, FollowsBy, Any}
+use Rattle.run_laws.specs.Runs.{Ending, Wrong, Exhausted, NeverWrong}
 use Rattle.run_laws.specs.Machines.{Machine, run}
-use Rattle.run_laws.specs.Meters.{unspent, metered, Spends, OfRest}
-use Rattle.run_laws.proofs.Public.{follows_at_cost, follows_of, follows_by_trans, follows_by_weaken, metered_follows}
-use Rattle.run_laws.proofs.Public.{follows_metered, unmetered_never_wrong, follower_never_goes_wrong, spends_through}
+use Rattle.run_laws.specs.Meters.{unspent, Spends, OfRest}
+use Rattle.run_laws.proofs.Public.{follows_at_cost, follows_by_trans, follows_by_weaken}
+use Rattle.run_laws.proofs.Public.{spends_through}
 use Rattle.rv_machine.specs.declared.real.RealItem.{RealItem}
 use Rattle.rv_machine.specs.State.{State}
 use Rattle.machine_words.specs.Halts.{Halt, Lacks, Stack}
 use Rattle.rv_machine.specs.Real.{Setting as RealSetting, real_machine}
 use Rattle.rv_select.specs.declared.code.VirtualItem.{VirtualItem}
 use Rattle.rv_select.specs.declared.code.VirtualItem.TheVariants.{Procedure}
-use Rattle.rv_select.specs.Run.{VirtualState, Shown, virtual_machine}
+use Rattle.rv_select.specs.Run.{Setting, Found, Frame, VirtualState, Shown, virtual_machine}
 use Rattle.assembler.specs.Prices.{state_price}
 use Rattle.rv_select.specs.Prices.{virtual_price}
 use Rattle.rv_select.proofs.Public.{unmetered}
 use Rattle.rv_select.specs.Marks.{marks, Distinct}
 use Rattle.reg_assign.specs.Slots.{slots_items}
-use Rattle.rv_select.specs.Stacks.{stack_of, stacked_machine}
+use Rattle.rv_select.specs.Stacks.{stack_of, stacked_machine, fitting_machine}
 use Rattle.reg_assign.specs.Slotted.{free_mark, Starts, setting_in, room_in, start_in, IsSeenAs, FollowsVirtual}
 use Rattle.reg_assign.specs.Slotted.{DoesInStack, DoesAsVirtual, StopsAsVirtual, EndsAsVirtual, frames_of, last_frame}
 use Rattle.reg_assign.proofs.slotted.Frames.{Slotting, On}
@@ -26,6 +26,28 @@ use Rattle.reg_assign.proofs.slotted.SlotSteps.{slots_simulate}
 use Rattle.reg_assign.proofs.slotted.SlotDistinct.{slots_once}
 use Rattle.reg_assign.proofs.slotted.Stopping.{ends_as_virtual}
 use Rattle.reg_assign.proofs.slotted.InStack.{fitting_never_wrong, fitting_simulates}
+
+-- what follows the virtual run in a stack of so many bytes follows that without a bound, where want of stack is read as
+-- exhausted
+pub follows_unbounded : {V : Type 0} (reading : Halt → Ending V) (setting : Setting) (bytes : Found → List Frame → ℕ)
+    (room : ℕ) (real : Machine State State V) (price : State → ℕ) (work : VirtualState → ℕ) (s : State)
+    → NeverWrong (run (virtual_machine reading setting) (start_in s))
+    → (reading (Lacks Stack) ≢ Wrong → FollowsVirtual real price (fitting_machine bytes reading setting room) work s)
+    → reading (Lacks Stack) ≡ Exhausted → FollowsVirtual real price (virtual_machine reading setting) work s
+follows_unbounded {V} reading setting bytes room real price work s never bounded out =
+    let lacking : reading (Lacks Stack) ≢ Wrong = (λ e. not_both (reading (Lacks Stack)) out e) in
+    let upper = follows_at_cost (fitting_simulates reading setting bytes room work out) (start_in s) (start_in s) refl
+    never in
+    let turns = follows_by_weaken (OfRest (IsSeenAs (s.regs 25))) (Spends 1)
+    (λ a b k. subst (λ x. IsSeenAs (s.regs 25) a.rest x) k.2 k.1) (λ a b k. spends_through 1 1 a b k)
+    (follows_by_trans (bounded lacking).turns upper) in
+    record {
+      follows = unmetered (virtual_machine reading setting) real work price (unspent (start_in s)) s never turns;
+      turns = turns;
+    }
+  where
+    not_both : (o : Ending V) → o ≡ Exhausted → o ≡ Wrong → ⊥
+    not_both o e f = cc
 
 module _ {V : Type 0} (reading : Halt → Ending V) (items : List VirtualItem) (distinct : Distinct (marks items))
     (counts : (p k first count : ℕ) → slice_get items p ≡ Some (Procedure k first count) → count < 2 ^ 32) where
@@ -95,19 +117,8 @@ module _ {V : Type 0} (reading : Halt → Ending V) (items : List VirtualItem) (
 
     pub follows_virtual : reading (Lacks Stack) ≡ Exhausted → FollowsVirtual real price free work s
     follows_virtual out =
-        let lacking : reading (Lacks Stack) ≢ Wrong = (λ e. not_both (reading (Lacks Stack)) out e) in
-        let upper = follows_at_cost (fitting_simulates reading (setting_in items told s) stack_of (room_in s) work out)
-        (start_in s) (start_in s) refl never in
-        let turns = follows_by_weaken (OfRest (IsSeenAs (s.regs 25))) (Spends 1)
-        (λ a b k. subst (λ x. IsSeenAs (s.regs 25) a.rest x) k.2 k.1) (λ a b k. spends_through 1 1 a b k)
-        (follows_by_trans (follows_in_stack lacking).turns upper) in
-        record {
-          follows = unmetered free real work price (unspent (start_in s)) s never turns;
-          turns = turns;
-        }
-      where
-        not_both : (o : Ending V) → o ≡ Exhausted → o ≡ Wrong → ⊥
-        not_both o e f = cc
+        follows_unbounded reading (setting_in items told s) stack_of (room_in s) real price work s never
+        follows_in_stack out
 
     pub stops_as_virtual : reading (Lacks Stack) ≢ Wrong → EndsAsVirtual reading items frames_of last_frame real free s
     stops_as_virtual lacking m verdict h =

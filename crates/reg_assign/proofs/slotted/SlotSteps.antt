@@ -1,13 +1,12 @@
 -- The code with slots does each step of the virtual run in its stack.
-use Rattle.std.proofs.Common.{ℕ, suc, ◌*◌, ◌^◌, ◌<◌, ◌≡◌, inl, Bool, true, false, List, [], ◌∷◌}
+use Rattle.std.proofs.Common.{ℕ, suc, ◌*◌, ◌^◌, ◌<◌, ◌≡◌, inl, Bool, true, false, List, ◌∷◌}
 use Rattle.std.proofs.Common.{Option, Some, None}
 use Rattle.std.proofs.Common.{refl, ◌∙◌, ap, subst, arith}
-use Rattle.std.specs.Prelude.{ℤ, FitsSigned, ◌==◌, ◌%◌, nat_lt, if◌then◌else◌, length, slice_get}
-use Rattle.std.specs.Int.{w64, cast_signed, cast_unsigned}
+use Rattle.std.specs.Prelude.{ℤ, FitsSigned, ◌==◌, nat_lt, if◌then◌else◌, length, slice_get}
+use Rattle.std.specs.Int.{w64, cast_unsigned}
 use Rattle.std.proofs.Math.Facts.{Fits-of_z}
-use Rattle.std.specs.Fmt.{signed_decimal}
-use Rattle.grift_base.specs.World.{WorldState, printing}
-use Rattle.grift_base.specs.Reading.{next_number, after_reading}
+use Rattle.grift_base.specs.World.{WorldState}
+use Rattle.grift_base.specs.Reading.{next_number}
 use Rattle.grift_base.proofs.Public.{next_number_fits}
 use Rattle.grift_base.specs.EnvironmentCall.{Called, environment_call, ends, traps, reads}
 use Rattle.grift_base.specs.declared.places.Pos.{Pos}
@@ -85,36 +84,31 @@ read_fits : (o : Option ℤ) (x y : ℕ) → ((n : ℤ) → o ≡ Some n → Fit
 read_fits (Some n) x y h e = both_fit (cast_unsigned w64 n) 0 x y e (Fits-of_z (h n refl)).fits (omega arith)
 read_fits None x y h e = both_fit 0 1 x y e (omega arith) (omega arith)
 
+never_blames : (b : Bool) (label x y : ℕ) → (if b then Blames label else Refused) ≡ GoesOn x y → ⊥
+never_blames true label x y e = cc
+never_blames false label x y e = cc
+
+by_either : (b : Bool) (c d : Called) (x y : ℕ) → (if b then c else d).effect ≡ GoesOn x y
+    → (c.effect ≡ GoesOn x y → (x < 2 ^ 64) × (y < 2 ^ 64)) → (d.effect ≡ GoesOn x y → (x < 2 ^ 64) × (y < 2 ^ 64))
+    → (x < 2 ^ 64) × (y < 2 ^ 64)
+by_either true c d x y e f g = f e
+by_either false c d x y e f g = g e
+
 -- a call that goes on hands back words
 goes_words : (number a0 a1 labels : ℕ) (world : WorldState) (x y : ℕ)
     → (environment_call number a0 a1 labels world).effect ≡ GoesOn x y → a0 < 2 ^ 64 → a1 < 2 ^ 64
     → (x < 2 ^ 64) × (y < 2 ^ 64)
 unfolding environment_call
 goes_words number a0 a1 labels w x y e h k =
-    by_number (number == 0) (number == 1) (number == 2) (number == 3) (number == 4) (number == 5) (number == 6)
-    (number == 7) e
-  where
-    by_number : (c0 c1 c2 c3 c4 c5 c6 c7 : Bool) → (
-        if c0 then record { effect = ends a0 a1; world = w }
-        else if c1 then record { effect = GoesOn a0 a1; world = printing (signed_decimal (cast_signed w64 a0)) w }
-        else if c2 then record { effect = GoesOn a0 a1; world = printing (a0 % 256 ∷ []) w }
-        else if c3 then record { effect = if nat_lt a0 labels then Blames a0 else Refused; world = w }
-        else if c4 then record { effect = traps a0; world = w }
-        else if c5 then record { effect = RegionEnds; world = w }
-        else if c6 then record { effect = StackEnds; world = w }
-        else if c7 then record { effect = reads (next_number w); world = after_reading (next_number w) w }
-        else (let r : Called = record { effect = Refused; world = w } in r)).effect ≡ GoesOn x y
-        → (x < 2 ^ 64) × (y < 2 ^ 64)
-    by_number true c1 c2 c3 c4 c5 c6 c7 f = absurd (never_ends a0 a1 x y f)
-    by_number false true c2 c3 c4 c5 c6 c7 f = both_fit a0 a1 x y f h k
-    by_number false false true c3 c4 c5 c6 c7 f = both_fit a0 a1 x y f h k
-    by_number false false false true c4 c5 c6 c7 f = absurd (let z : ⊥ = grind arith in z)
-    by_number false false false false true c5 c6 c7 f = absurd (never_traps a0 x y f)
-    by_number false false false false false true c6 c7 f = absurd (let z : ⊥ = cc in z)
-    by_number false false false false false false true c7 f = absurd (let z : ⊥ = cc in z)
-    by_number false false false false false false false true f =
-        read_fits (next_number w) x y (next_number_fits w) f
-    by_number false false false false false false false false f = absurd (let z : ⊥ = cc in z)
+    by_either (number == 0) _ _ x y e (λ f. absurd (never_ends a0 a1 x y f)) (λ e1.
+    by_either (number == 1) _ _ x y e1 (λ f. both_fit a0 a1 x y f h k) (λ e2.
+    by_either (number == 2) _ _ x y e2 (λ f. both_fit a0 a1 x y f h k) (λ e3.
+    by_either (number == 3) _ _ x y e3 (λ f. absurd (never_blames (nat_lt a0 labels) a0 x y f)) (λ e4.
+    by_either (number == 4) _ _ x y e4 (λ f. absurd (never_traps a0 x y f)) (λ e5.
+    by_either (number == 5) _ _ x y e5 (λ f. absurd (let z : ⊥ = cc in z)) (λ e6.
+    by_either (number == 6) _ _ x y e6 (λ f. absurd (let z : ⊥ = cc in z)) (λ e7.
+    by_either (number == 7) _ _ x y e7 (λ f. read_fits (next_number w) x y (next_number_fits w) f)
+    (λ e8. absurd (let z : ⊥ = cc in z)))))))))
 
 module _ {V : Type 0} (w : Slotting V) where
   do_environment : (t : VirtualState) (s : State) (on : On w t s) → slice_get w.items t.pc ≡ Some Environment

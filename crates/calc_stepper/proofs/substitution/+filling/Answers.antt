@@ -1,32 +1,32 @@
-use Rattle.std.proofs.Common.{◌≡◌, ◌∙◌, ap, ap₂}
+use Rattle.std.proofs.Common.{◌≡◌, ◌∙◌, ap, ap₂, sym}
 use Rattle.core_calc.specs.Terms.{Call, Cast, Enter, Group, If, Lambda, Let, Prim, Proj, ProjDyn, Seq, Term, Tuple}
 use Rattle.core_calc.specs.Views.{names_of, term_of}
+use Rattle.calc_stepper.specs.Holes.{Holes, behind, filled}
 use Rattle.calc_stepper.proofs.substitution.+filling.Goals as goal
 
 -- the parts of a term are filled in order, each with what those before it leave
 
-if_filled : {a b c d e f : Term} → a ≡ b → c ≡ d → e ≡ f → If a c e ≡ If b d f
-if_filled p q r = λ i. If (p i) (q i) (r i)
+if_of : {a b c d e f : Term} → a ≡ b → c ≡ d → e ≡ f → If a c e ≡ If b d f
+if_of p q r = λ i. If (p i) (q i) (r i)
+
+if_filled : {term a b c one two three : Term} (first second third : Term) (holes : Holes) {after later last : Holes} →
+    term ≡ If a b c → first ≡ a → second ≡ b → third ≡ c → one ≡ filled first holes → after ≡ behind first holes →
+    two ≡ filled second after → later ≡ behind second after → three ≡ filled third later → last ≡ behind third later →
+    (If one two three ≡ filled term holes) × (last ≡ behind term holes)
+if_filled first second third holes is d e f g h i j k l =
+    let whole = is ∙ if_of (sym d) (sym e) (sym f) in
+    let left = j ∙ ap (behind second) h in (
+      if_of g (i ∙ ap (filled second) h) (k ∙ ap (filled third) left) ∙ sym (ap (λ t. filled t holes) whole),
+      l ∙ ap (behind third) left ∙ sym (ap (λ t. behind t holes) whole),
+    )
 
 pub fill-returns-in-If : goal.fill-returns-in-If
-fill-returns-in-If t c = record {
-  term = rw (
-    ap term_of c.in-If.is,
-    ← c.deref_mut-in-If.ensures.value,
-    ← c.fill-in-If.ensures.holes,
-    ← c.deref_mut-in-If-2.ensures.value,
-    ← c.fill-in-If-2.ensures.holes,
-    ← c.deref_mut-in-If-3.ensures.value,
-  ) (if_filled c.fill-in-If.ensures.term c.fill-in-If-2.ensures.term c.fill-in-If-3.ensures.term);
-  holes = rw (
-    ap term_of c.in-If.is,
-    ← c.deref_mut-in-If.ensures.value,
-    ← c.fill-in-If.ensures.holes,
-    ← c.deref_mut-in-If-2.ensures.value,
-    ← c.fill-in-If-2.ensures.holes,
-    ← c.deref_mut-in-If-3.ensures.value,
-  ) c.fill-in-If-3.ensures.holes;
-}
+fill-returns-in-If t c =
+    let done = if_filled _ _ _ _ (ap term_of c.in-If.is) (ap term_of c.deref_mut-in-If.ensures.value)
+    (ap term_of c.deref_mut-in-If-2.ensures.value) (ap term_of c.deref_mut-in-If-3.ensures.value)
+    c.fill-in-If.ensures.term c.fill-in-If.ensures.holes c.fill-in-If-2.ensures.term c.fill-in-If-2.ensures.holes
+    c.fill-in-If-3.ensures.term c.fill-in-If-3.ensures.holes in
+    record { term = done.0; holes = done.1 }
 
 pub fill-returns-in-Lambda : goal.fill-returns-in-Lambda
 fill-returns-in-Lambda t c = record {

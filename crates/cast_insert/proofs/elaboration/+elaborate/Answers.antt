@@ -42,7 +42,7 @@ use Rattle.surface_trees.specs.declared.exprs.Members.{the_lemmas as member_lemm
 use Rattle.cast_insert.specs.declared.names.Named.{Named}
 use Rattle.cast_insert.specs.Sources.{place_of, how_many}
 use Rattle.cast_insert.specs.Scoped.{env_of}
-use Rattle.cast_insert.proofs.Bodies.{heads_left, names_left}
+use Rattle.cast_insert.proofs.Bodies.{first_split, heads_left, names_left}
 use Rattle.std.specs.Prelude.{nat_eq}
 use Rattle.surface_trees.specs.declared.exprs.ExprNode.{the_lemmas as node_lemmas}
 use Rattle.surface_trees.specs.declared.exprs.LambdaExpr.{the_lemmas as lambda_lemmas}
@@ -154,13 +154,6 @@ bindings-loop-left-preserved t c =
           (grows_on c.written_if.new.self.types c.cast_if.new.self.types c.fresh.new.self.types
           c.in_ok-bound.ensures.grows c.in_ok-variable.ensures.grows)));
     }
-
--- a list whose first element is known
-first_split : {A : Type 0} (xs : List A) (x : A) → 1 ≤ length xs → x ≡ get_or xs 0 x →
-    xs ≡ x ∷ take (length xs - 1) (drop 1 xs)
-first_split [] x some e = absurd (omega arith)
-first_split (y ∷ ys) x some e =
-    ap (λ z. z ∷ ys) (sym e) ∙ ap (λ zs. x ∷ zs) (sym (take_all (length (y ∷ ys) - 1) ys (omega arith)))
 
 -- a member, and those behind it
 members_more : (done : List Member) (name : Ident) (own : Option TypeExpr) (lambda : LambdaExpr) (rest : LetrecMembers)

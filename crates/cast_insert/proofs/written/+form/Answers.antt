@@ -1,16 +1,21 @@
-use Rattle.std.proofs.Common.{◌≡◌, ◌≤◌, ℕ, suc, max, List, [], ◌∷◌, ◌++◌, ap, ◌∙◌, arith}
-use Rattle.grift_base.specs.Types.{TypeRows, FunRow, TupleRow, RefRow, VectRow}
+use Rattle.std.proofs.Common.{◌≡◌, ◌≤◌, ◌+◌, ℕ, suc, max, List, [], ◌∷◌, ◌++◌, length, ap, ◌∙◌, arith, rules}
+use Rattle.std.proofs.lemmas.List.{map-append, length-append}
+use Rattle.surface_trees.specs.declared.types.TypeExprs.{the_lemmas as type_lemmas}
+use Rattle.std.specs.Prelude.{IfOk, Result}
+use Rattle.grift_base.specs.declared.lists.OutOfMemory.{OutOfMemory}
+use Rattle.grift_base.specs.Types.{TypeRow, TypeRows, FunRow, TupleRow, RefRow, VectRow}
 use Rattle.grift_base.specs.declared.places.TypeId.{TypeId}
-use Rattle.surface_trees.specs.Trees.{TypeExpr, TypeExprs, FunType, TupleType, RefType, VectType}
+use Rattle.surface_trees.specs.Trees.{TypeExpr, TypeExprs, TypeThen, FunType, TupleType}
 use Rattle.surface_trees.specs.Views.{type_of, types_of}
 use Rattle.type_graph.specs.Forming.{intern}
 use Rattle.type_graph.specs.Rows.{places_of}
-use Rattle.cast_insert.specs.Programs.{NodeHasWidths, depth_of, depth_of_all}
+use Rattle.cast_insert.specs.Programs.{HaveTypeWidths, NodeHasWidths, depth_of, depth_of_all, how_many_types}
 use Rattle.cast_insert.specs.WrittenTypes.{form_node, form_type, form_types}
 use Rattle.cast_insert.specs.Room.{IsWithin, StandsOn}
 use Rattle.cast_insert.proofs.Room.{if_ok_more, all_within_later, function_within, stands_within}
 use Rattle.cast_insert.proofs.Room.{all_within_parts, all_within_push, fun_fits, grows_last, grows_on}
-use Rattle.cast_insert.proofs.Room.{none_within, ref_fits}
+use Rattle.cast_insert.proofs.Room.{none_within, ref_fits, within_more}
+use Rattle.cast_insert.proofs.Steps.{forms_more}
 use Rattle.cast_insert.proofs.Room.{tuple_fits, vect_fits, within_part}
 use Rattle.cast_insert.proofs.written.+form.Goals as goal
 
@@ -70,23 +75,25 @@ form_node-returns-in_ok-parts-in-Tuple-clause-formed t c =
     c.put-in-Tuple.result c.put-in-Tuple.ensures.formed
     (λ ty h. ap (λ (d : List ℕ × TypeRows). intern (TupleRow d.0) d.1) c.in_ok-parts-in-Tuple.ensures.formed ∙ h))
 
+-- a box or a vector, of which this is the row over its content
+cell_formed : (row : ℕ → TypeRow) (content : ℕ) (old new : TypeRows) (formed : ℕ × TypeRows)
+    (result : Result TypeId OutOfMemory) → formed ≡ (content, old) →
+    IfOk result (λ ty. intern (row content) old ≡ (ty.0, new)) →
+    IfOk result (λ ty. intern (row formed.0) formed.1 ≡ (ty.0, new))
+cell_formed row content old new formed result e h =
+    if_ok_more (λ (ty : TypeId). intern (row content) old ≡ (ty.0, new))
+    (λ (ty : TypeId). intern (row formed.0) formed.1 ≡ (ty.0, new)) result h
+    (λ ty k. ap (λ (d : ℕ × TypeRows). intern (row d.0) d.1) e ∙ k)
+
 pub form_node-returns-in_ok-content-in-Ref-clause-formed : goal.form_node-returns-in_ok-content-in-Ref-clause-formed
 form_node-returns-in_ok-content-in-Ref-clause-formed t c =
-    let old = c.form_type-in-Ref.new.types in
-    let new = c.put-in-Ref.new.types in
-    rw c.in-Ref.is (if_ok_more (λ (ty : TypeId). intern (RefRow c.in_ok-content-in-Ref.content.0) old ≡ (ty.0, new))
-    (λ (ty : TypeId). form_node (RefType (type_of c.in-Ref.content.value)) c.args.types.now ≡ (ty.0, new))
-    c.put-in-Ref.result c.put-in-Ref.ensures.formed (λ ty h. ap (λ (d : ℕ × TypeRows). intern (RefRow d.0) d.1)
-    (rw c.deref-in-Ref.ensures at c.in_ok-content-in-Ref.ensures.formed) ∙ h))
+    rw c.in-Ref.is (cell_formed RefRow _ _ _ _ c.put-in-Ref.result
+    (rw c.deref-in-Ref.ensures at c.in_ok-content-in-Ref.ensures.formed) c.put-in-Ref.ensures.formed)
 
 pub form_node-returns-in_ok-content-in-Vect-clause-formed : goal.form_node-returns-in_ok-content-in-Vect-clause-formed
 form_node-returns-in_ok-content-in-Vect-clause-formed t c =
-    let old = c.form_type-in-Vect.new.types in
-    let new = c.put-in-Vect.new.types in
-    rw c.in-Vect.is (if_ok_more (λ (ty : TypeId). intern (VectRow c.in_ok-content-in-Vect.content.0) old ≡ (ty.0, new))
-    (λ (ty : TypeId). form_node (VectType (type_of c.in-Vect.content.value)) c.args.types.now ≡ (ty.0, new))
-    c.put-in-Vect.result c.put-in-Vect.ensures.formed (λ ty h. ap (λ (d : ℕ × TypeRows). intern (VectRow d.0) d.1)
-    (rw c.deref-in-Vect.ensures at c.in_ok-content-in-Vect.ensures.formed) ∙ h))
+    rw c.in-Vect.is (cell_formed VectRow _ _ _ _ c.put-in-Vect.result
+    (rw c.deref-in-Vect.ensures at c.in_ok-content-in-Vect.ensures.formed) c.put-in-Vect.ensures.formed)
 
 -- ---- tables that grow
 
@@ -109,27 +116,24 @@ form_node-returns-in_ok-content-in-Vect-clause-grows t c =
 
 -- ---- a box and a vector are one higher than their content
 
+cell_within : (old new : TypeRows) (most content : ℕ) (result : Result TypeId OutOfMemory) →
+    IsWithin old most content → IfOk result (λ ty. StandsOn old (content ∷ []) new ty.0) →
+    IfOk result (λ ty. IsWithin new (suc most) ty.0)
+cell_within old new most content result h stands =
+    if_ok_more (λ (ty : TypeId). StandsOn old (content ∷ []) new ty.0)
+    (λ (ty : TypeId). IsWithin new (suc most) ty.0) result stands
+    (λ ty k. stands_within old new most (content ∷ []) ty.0
+    (all_within_push old most [] content (none_within old most) h) k)
+
 pub form_node-returns-in_ok-content-in-Ref-clause-within : goal.form_node-returns-in_ok-content-in-Ref-clause-within
 form_node-returns-in_ok-content-in-Ref-clause-within t c =
-    let old = c.form_type-in-Ref.new.types in
-    let new = c.put-in-Ref.new.types in
-    let most : ℕ = depth_of (type_of c.in-Ref.content.value) in
-    let content : ℕ = c.in_ok-content-in-Ref.content.0 in
-    rw c.in-Ref.is (if_ok_more (λ (ty : TypeId). StandsOn old (content ∷ []) new ty.0)
-    (λ (ty : TypeId). IsWithin new (suc most) ty.0) c.put-in-Ref.result c.put-in-Ref.ensures.stands
-    (λ ty h. stands_within old new most (content ∷ []) ty.0 (all_within_push old most [] content (none_within old most)
-    (rw c.deref-in-Ref.ensures at c.in_ok-content-in-Ref.ensures.within)) h))
+    rw c.in-Ref.is (cell_within _ _ _ _ c.put-in-Ref.result
+    (rw c.deref-in-Ref.ensures at c.in_ok-content-in-Ref.ensures.within) c.put-in-Ref.ensures.stands)
 
 pub form_node-returns-in_ok-content-in-Vect-clause-within : goal.form_node-returns-in_ok-content-in-Vect-clause-within
 form_node-returns-in_ok-content-in-Vect-clause-within t c =
-    let old = c.form_type-in-Vect.new.types in
-    let new = c.put-in-Vect.new.types in
-    let most : ℕ = depth_of (type_of c.in-Vect.content.value) in
-    let content : ℕ = c.in_ok-content-in-Vect.content.0 in
-    rw c.in-Vect.is (if_ok_more (λ (ty : TypeId). StandsOn old (content ∷ []) new ty.0)
-    (λ (ty : TypeId). IsWithin new (suc most) ty.0) c.put-in-Vect.result c.put-in-Vect.ensures.stands
-    (λ ty h. stands_within old new most (content ∷ []) ty.0 (all_within_push old most [] content (none_within old most)
-    (rw c.deref-in-Vect.ensures at c.in_ok-content-in-Vect.ensures.within)) h))
+    rw c.in-Vect.is (cell_within _ _ _ _ c.put-in-Vect.result
+    (rw c.deref-in-Vect.ensures at c.in_ok-content-in-Vect.ensures.within) c.put-in-Vect.ensures.stands)
 
 -- ---- rows that fit
 
@@ -160,16 +164,45 @@ form_node-put-requires-in-Tuple t c =
 
 pub form_node-put-requires-in-Ref : goal.form_node-put-requires-in-Ref
 form_node-put-requires-in-Ref t c =
-    let now = c.form_type-in-Ref.new.types in
-    let content = type_of c.in-Ref.content.value in
-    let shallow : suc (depth_of content) ≤ 200 = (rw c.in-Ref.is at c.requires.shallow) in
-    ref_fits now _ (within_part now (depth_of content) _ (omega arith)
+    let most : ℕ = depth_of (type_of c.in-Ref.content.value) in
+    let shallow : suc most ≤ 200 = (rw c.in-Ref.is at c.requires.shallow) in
+    ref_fits _ _ (within_part _ most _ (omega arith)
     (rw c.deref-in-Ref.ensures at c.in_ok-content-in-Ref.ensures.within))
 
 pub form_node-put-requires-in-Vect : goal.form_node-put-requires-in-Vect
 form_node-put-requires-in-Vect t c =
-    let now = c.form_type-in-Vect.new.types in
-    let content = type_of c.in-Vect.content.value in
-    let shallow : suc (depth_of content) ≤ 200 = (rw c.in-Vect.is at c.requires.shallow) in
-    vect_fits now _ (within_part now (depth_of content) _ (omega arith)
+    let most : ℕ = depth_of (type_of c.in-Vect.content.value) in
+    let shallow : suc most ≤ 200 = (rw c.in-Vect.is at c.requires.shallow) in
+    vect_fits _ _ (within_part _ most _ (omega arith)
     (rw c.deref-in-Vect.ensures at c.in_ok-content-in-Vect.ensures.within))
+
+-- ---- types one after another
+
+pub form_types-loop-left-preserved : goal.form_types-loop-left-preserved
+form_types-loop-left-preserved t c =
+    let now = c.form_type.new.types in
+    let first = type_of c.in-Cons.first.value in
+    let rest = types_of c.in-Cons.rest.value in
+    let done = places_of c.loop-left.ids in
+    let most : ℕ = depth_of_all (types_of c.args.list.now) in
+    let id : ℕ = c.in_ok-id.id.0 in
+    let widths : HaveTypeWidths (TypeThen first rest) = (rw c.in-Cons.is at c.loop-left.invariant.widths) in
+    let shallow : max (depth_of first) (depth_of_all rest) ≤ most =
+    (rw c.in-Cons.is at c.loop-left.invariant.shallow) in
+    let count : length done + suc (how_many_types rest) ≡ how_many_types (types_of c.args.list.now) =
+    (rw c.in-Cons.is at c.loop-left.invariant.count) in
+    let pushed : places_of c.push.new.self ≡ done ++ id ∷ [] =
+    ap places_of c.in_ok-push.ensures.ok ∙ map-append (λ (id : TypeId). id.0) c.loop-left.ids (c.in_ok-id.id ∷ []) in
+    record {
+      formed = (rw c.in-Cons.is at c.loop-left.invariant.formed) ∙ rw (c.in_ok-push.ensures.ok, c.deref-left.ensures)
+          (forms_more c.loop-left.ids c.in_ok-id.id first rest c.loop-left.types now
+          (rw c.deref.ensures at c.in_ok-id.ensures.formed));
+      smaller = search (rules, type_lemmas);
+      widths = rw c.deref-left.ensures widths.1;
+      shallow = rw c.deref-left.ensures (omega arith);
+      grows = grows_on _ _ _ c.loop-left.invariant.grows c.in_ok-id.ensures.grows;
+      within = rw pushed (all_within_push now most done id (all_within_later c.loop-left.types now most done
+          c.in_ok-id.ensures.grows c.loop-left.invariant.within) (within_more now (depth_of first) most id (omega arith)
+          (rw c.deref.ensures at c.in_ok-id.ensures.within)));
+      count = rw (pushed, c.deref-left.ensures) (omega (arith, count, length-append done (id ∷ [])));
+    }

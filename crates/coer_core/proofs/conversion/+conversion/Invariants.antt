@@ -21,7 +21,8 @@ invariant-converted_all-loop-left l = record {
 
 abbrev pub invariant-converted_members-loop-left : goal.invariant-converted_members-loop-left
 invariant-converted_members-loop-left l = record {
-  term_is : members_onto (row_members_of l.functions) (converted_members (cast_views l.casts) (members_of l.left)).term
+  term_is : members_onto (row_members_of l.functions)
+      (converted_members (cast_views l.casts) (members_of l.left)).term
       ≡ (converted_members (cast_views l.fn.casts) (members_of l.members)).term;
   casts_are : (converted_members (cast_views l.casts) (members_of l.left)).casts
       ≡ (converted_members (cast_views l.fn.casts) (members_of l.members)).casts;
@@ -30,7 +31,8 @@ invariant-converted_members-loop-left l = record {
 
 abbrev pub invariant-converted_bindings-loop-left : goal.invariant-converted_bindings-loop-left
 invariant-converted_bindings-loop-left l = record {
-  term_is : bindings_onto (row_bindings_of l.bound) (converted_bindings (cast_views l.casts) (bindings_of l.left)).term
+  term_is : bindings_onto (row_bindings_of l.bound)
+      (converted_bindings (cast_views l.casts) (bindings_of l.left)).term
       ≡ (converted_bindings (cast_views l.fn.casts) (bindings_of l.bindings)).term;
   casts_are : (converted_bindings (cast_views l.casts) (bindings_of l.left)).casts
       ≡ (converted_bindings (cast_views l.fn.casts) (bindings_of l.bindings)).casts;

@@ -28,6 +28,7 @@ use Rattle.coercion_compose.proofs.Steps.{injected_inject, injected_middle, kept
 use Rattle.coercion_compose.proofs.Steps.{middled_fail}
 use Rattle.coercion_compose.proofs.Steps.{middled_id, middled_inject, middled_middle, middled_other, middled_project}
 use Rattle.coercion_compose.proofs.Steps.{parts_fall, projected, through_dyn, wanted_there}
+use Rattle.coercion_compose.proofs.compositions.+compose.Goals.{after_middle-After-as_slice-in-Middle-2}
 use Rattle.coercion_compose.proofs.compositions.+compose.Goals as goal
 
 -- what holds in any case holds where there is an answer
@@ -415,10 +416,13 @@ middle_is types rows old ordered fits c d kind other parts others c_is d_is same
     ∙ ap₂ (λ xs ys. follow_parts (composition_of types) kind (trees (tree_of old.nodes) xs)
     (trees (tree_of old.nodes) ys)) first second)
 
-pub after_middle-intern_middle-requires-clause-sound : goal.after_middle-intern_middle-requires-clause-sound
-after_middle-intern_middle-requires-clause-sound t c =
-    subst (IsSound c.args.types.now)
-    (sym (middle_is c.args.types.now c.len.ensures.table c.args.table.now c.len-2.ensures.nodes.ordered
+middle_made : (t : ℕ) (c : after_middle-After-as_slice-in-Middle-2 t)
+    → middle c.args.kind (trees (tree_of c.compose_parts.new.table.nodes) (coercion_places
+    c.as_slice-in-Middle-2.result.now))
+    ≡ composition_of c.args.types.now (tree_of c.args.table.now.nodes c.args.c.0)
+    (tree_of c.args.table.now.nodes c.args.d.0)
+middle_made t c =
+    middle_is c.args.types.now c.len.ensures.table c.args.table.now c.len-2.ensures.nodes.ordered
     c.requires.fits c.args.c.0 c.args.d.0 c.args.kind c.in-Middle.other c.requires.middle.0 c.in-Middle.ensures.0
     c.requires.middle.1 c.in-Middle.ensures.1 (sym c.same_kind.ensures ∙ c.if-not-same_kind.false)
     c.compose_parts.new.table.nodes c.as_slice.result.now c.as_slice-in-Middle.result.now
@@ -427,7 +431,13 @@ after_middle-intern_middle-requires-clause-sound t c =
     ∙ c.in_ok-firsts-in-Middle.ensures c.args.kind c.requires.middle.0 c.requires.middle.1)
     (ap coercion_places c.as_slice-in-Middle.ensures.value
     ∙ c.in_ok-seconds-in-Middle.ensures c.in-Middle.other c.in-Middle.ensures.0 c.in-Middle.ensures.1)
-    c.in_ok-parts-in-Middle.ensures.made c.as_slice-in-Middle-2.ensures.value))
+    c.in_ok-parts-in-Middle.ensures.made c.as_slice-in-Middle-2.ensures.value
+
+pub after_middle-intern_middle-requires-clause-sound : goal.after_middle-intern_middle-requires-clause-sound
+after_middle-intern_middle-requires-clause-sound t c =
+    subst (IsSound c.args.types.now)
+    (sym (middle_made t
+    (goal.at.after_middle-intern_middle-requires-clause-sound t c).After-as_slice-in-Middle-2))
     (both_sound c.args.types.now c.len.ensures.table c.args.table.now c.len-2.ensures.nodes.ordered
     c.requires.fits c.args.c.0 c.args.d.0 c.requires.c c.requires.d)
 
@@ -435,16 +445,9 @@ pub after_middle-returns-in_ok-parts-in-Middle-clause-made :
     goal.after_middle-returns-in_ok-parts-in-Middle-clause-made
 after_middle-returns-in_ok-parts-in-Middle-clause-made t c =
     subst (λ x. IfOk c.intern_middle.result (λ (r : CoercionId). IsTree c.intern_middle.new.self.nodes r.0 x))
-    (middle_is c.args.types.now c.len.ensures.table c.args.table.now c.len-2.ensures.nodes.ordered
-    c.requires.fits c.args.c.0 c.args.d.0 c.args.kind c.in-Middle.other c.requires.middle.0 c.in-Middle.ensures.0
-    c.requires.middle.1 c.in-Middle.ensures.1 (sym c.same_kind.ensures ∙ c.if-not-same_kind.false)
-    c.compose_parts.new.table.nodes c.as_slice.result.now c.as_slice-in-Middle.result.now
-    c.in_ok-parts-in-Middle.parts.items c.as_slice-in-Middle-2.result.now
-    (ap coercion_places c.as_slice.ensures.value
-    ∙ c.in_ok-firsts-in-Middle.ensures c.args.kind c.requires.middle.0 c.requires.middle.1)
-    (ap coercion_places c.as_slice-in-Middle.ensures.value
-    ∙ c.in_ok-seconds-in-Middle.ensures c.in-Middle.other c.in-Middle.ensures.0 c.in-Middle.ensures.1)
-    c.in_ok-parts-in-Middle.ensures.made c.as_slice-in-Middle-2.ensures.value) c.intern_middle.ensures.made
+    (middle_made t
+    (goal.at.after_middle-returns-in_ok-parts-in-Middle-clause-made t c).After-as_slice-in-Middle-2)
+    c.intern_middle.ensures.made
 
 pub after_middle-returns-in_ok-parts-in-Middle-clause-known :
     goal.after_middle-returns-in_ok-parts-in-Middle-clause-known
@@ -525,3 +528,42 @@ compose_parts-returns-clause-made t c =
     both_made (composition_of c.args.types.now) c.args.kind c.loop-j.table.nodes (tree_of c.args.table.now.nodes)
     c.args.firsts.now c.args.seconds.now c.loop-j.parts.items (length c.args.firsts.now) c.loop-j.j refl end
     c.loop-j.invariant.made
+
+-- ---- the table grows
+
+pub compose_parts-returns-in_err-e-clause-grows : goal.compose_parts-returns-in_err-e-clause-grows
+compose_parts-returns-in_err-e-clause-grows t c =
+    more_nodes c.args.table.now.nodes c.loop-j.table.nodes c.compose_known.new.table.nodes c.loop-j.invariant.grows
+    c.compose_known.ensures.grows
+
+pub after_inject-returns-in_err-rest-in-Project-clause-grows :
+    goal.after_inject-returns-in_err-rest-in-Project-clause-grows
+after_inject-returns-in_err-rest-in-Project-clause-grows t c =
+    more_nodes c.args.table.now.nodes c.coerce_known.new.table.nodes c.compose_pair.new.table.nodes
+    c.in_ok-between-in-Project.ensures.grows c.compose_pair.ensures.grows
+
+pub after_inject-returns-in_ok-rest-in-Project-clause-grows :
+    goal.after_inject-returns-in_ok-rest-in-Project-clause-grows
+after_inject-returns-in_ok-rest-in-Project-clause-grows t c =
+    more_nodes c.args.table.now.nodes c.compose_pair.new.table.nodes c.compose_pair-in-Project.new.table.nodes
+    (more_nodes c.args.table.now.nodes c.coerce_known.new.table.nodes c.compose_pair.new.table.nodes
+    c.in_ok-between-in-Project.ensures.grows c.in_ok-rest-in-Project.ensures.grows)
+    c.compose_pair-in-Project.ensures.grows
+
+pub compose_pair-returns-in_ok-rest-in-Project-clause-grows :
+    goal.compose_pair-returns-in_ok-rest-in-Project-clause-grows
+compose_pair-returns-in_ok-rest-in-Project-clause-grows t c =
+    more_nodes c.args.table.now.nodes c.compose_pair.new.table.nodes c.intern_node.new.self.nodes
+    c.in_ok-rest-in-Project.ensures.grows c.intern_node.ensures.grows
+
+pub after_middle-returns-in_ok-before-in-Inject-clause-grows :
+    goal.after_middle-returns-in_ok-before-in-Inject-clause-grows
+after_middle-returns-in_ok-before-in-Inject-clause-grows t c =
+    more_nodes c.args.table.now.nodes c.after_middle.new.table.nodes c.intern_node.new.self.nodes
+    c.in_ok-before-in-Inject.ensures.grows c.intern_node.ensures.grows
+
+pub after_middle-returns-in_ok-parts-in-Middle-clause-grows :
+    goal.after_middle-returns-in_ok-parts-in-Middle-clause-grows
+after_middle-returns-in_ok-parts-in-Middle-clause-grows t c =
+    more_nodes c.args.table.now.nodes c.compose_parts.new.table.nodes c.intern_middle.new.self.nodes
+    c.in_ok-parts-in-Middle.ensures.grows c.intern_middle.ensures.grows

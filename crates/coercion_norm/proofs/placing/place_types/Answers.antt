@@ -6,18 +6,17 @@ use Rattle.coercion_norm.proofs.TypeObjects.{types_said}
 use Rattle.coercion_norm.proofs.TypePlacing.{types_placed}
 use Rattle.coercion_norm.proofs.placing.place_types.Goals as goal
 
-pub returns-clause-placed : goal.returns-clause-placed
-returns-clause-placed c =
-    types_placed c.args.types.now c.len.ensures.table c.args.start c.in_ok-type_at.type_at c.in_ok-type_at.ensures
-    c.write_types.new.words
-    (c.in_ok-write_types.ensures
-    ∙ ap (λ (told : List ℕ). words_of_all (type_objects c.args.types.now (λ type. slice_index told type)
-    (length c.args.types.now))) c.as_slice.ensures)
-
-pub returns-clause-said : goal.returns-clause-said
-returns-clause-said c =
-    types_said c.args.types.now c.len.ensures.table c.args.start c.in_ok-type_at.type_at c.in_ok-type_at.ensures
-    c.write_types.new.words
-    (c.in_ok-write_types.ensures
-    ∙ ap (λ (told : List ℕ). words_of_all (type_objects c.args.types.now (λ type. slice_index told type)
-    (length c.args.types.now))) c.as_slice.ensures)
+pub returns : goal.returns
+returns c =
+    let types = c.args.types.now in
+    let written = c.in_ok-write_types.ensures
+    ∙ ap (λ (told : List ℕ). words_of_all (type_objects types (λ type. slice_index told type) (length types)))
+    c.as_slice.ensures in
+    record {
+      placed =
+          types_placed types c.len.ensures.table c.args.start c.in_ok-type_at.type_at c.in_ok-type_at.ensures
+          c.write_types.new.words written;
+      said =
+          types_said types c.len.ensures.table c.args.start c.in_ok-type_at.type_at c.in_ok-type_at.ensures
+          c.write_types.new.words written;
+    }

@@ -33,7 +33,7 @@ use Rattle.compile_driver.proofs.Following.{no_names}
 use Rattle.compile_driver.proofs.ImageAccount.{IsMeasured, keeps_account}
 use Rattle.compile_driver.proofs.LabelsLow.{labels_low}
 use Rattle.compile_driver.proofs.compiling.words_over.Goals as goal
-use Rattle.compile_driver.proofs.compiling.words_over.Goals.{After-drop-coer-4}
+use Rattle.compile_driver.proofs.compiling.words_over.Goals.{After-drop-coer-2}
 
 pub to_coercions-requires : goal.to_coercions-requires
 to_coercions-requires c = (length c.args.elab.now.labels, c.args.elab.now.ty.0, c.requires.typed)
@@ -61,7 +61,7 @@ pub lower-requires-clause-casts : goal.lower-requires-clause-casts
 lower-requires-clause-casts c = casts_within c.args.types.now c.in_ok-coer.coer.coercions.nodes
     c.in_ok-coer.coer.casts c.in_ok-coer.ensures.coercions
 
-flat_closed : (c : After-drop-coer-4)
+flat_closed : (c : After-drop-coer-2)
     → is_closed_flat (procs_of_flat c.in_ok-flat.flat.procs) c.in_ok-flat.flat.entry ≡ true
 flat_closed c =
     let types = c.args.types.now in
@@ -73,11 +73,11 @@ flat_closed c =
     (c.in_ok-coer.ensures.answer labels low) in
     c.in_ok-flat.ensures.closed (row_casts coer.casts) types labels coer.answer.0 c.len.ensures.table.widths typed
 
-words_closed : (c : After-drop-coer-4) → is_closed (procs_of c.in_ok-low.low.procs) c.in_ok-low.low.entry ≡ true
+words_closed : (c : After-drop-coer-2) → is_closed (procs_of c.in_ok-low.low.procs) c.in_ok-low.low.entry ≡ true
 words_closed c = c.in_ok-low.ensures.closed (flat_closed c)
 
 -- what the passes answer is what the laws on images ask for
-answers : (c : After-drop-coer-4) (image : List ℕ)
+answers : (c : After-drop-coer-2) (image : List ℕ)
     → IsImageOfWords image (procs_of c.in_ok-low.low.procs) c.in_ok-low.low.entry c.in_ok-low.low.statics.words
     c.args.elab.now.labels
     → statics_len image + code_len image ≤ 2 ^ 33
@@ -135,7 +135,7 @@ answers c image is short =
     }
 
 -- and how high coercions are, and the account of the numbered procedures
-is_measured : (c : After-drop-coer-4) → IsMeasured (program_over c.args.types.now c.args.elab.now)
+is_measured : (c : After-drop-coer-2) → IsMeasured (program_over c.args.types.now c.args.elab.now)
     c.in_ok-coer.coer.casts
     (row_term_of c.in_ok-coer.coer.body) c.in_ok-coer.coer.answer.0
 is_measured c =

@@ -23,8 +23,8 @@ loop-left-preserved g c =
           c.loop-left.invariant.height here.1;
     }
 
-pub returns-in_err-height_of_wanted-clause-none : goal.returns-in_err-height_of_wanted-clause-none
-returns-in_err-height_of_wanted-clause-none g c = rw c.from_residual.ensures (λ wanted.
+pub returns-in_err-height_of_wanted : goal.returns-in_err-height_of_wanted
+returns-in_err-height_of_wanted g c = rw c.from_residual.ensures (λ wanted.
     let told = word_within (g.W.Words.first c.args.memory.now) (g.W.Words.end c.args.memory.now)
     (g.W.Words.word_at c.args.memory.now) in
     let place = c.loop-left.left - 1 in

@@ -52,3 +52,6 @@ returns c =
     let inv = c.loop-v.invariant in
     best_of c.args.code.now.items c.loop-v.places c.args.code.now.registers
     (let n = inv.0 in omega (arith, n, c.loop-v-test.false, c.loop-v.auto.v-end)) inv.2 inv.1.holds
+
+pub place_for-requires-clause-room : goal.place_for-requires-clause-room
+place_for-requires-clause-room c = rw (c.as_slice-items.ensures, c.as_slice.ensures) c.loop-v.invariant.1

@@ -1,4 +1,5 @@
 use Rattle.std.proofs.Common.{ℕ, List, ◌<◌, ◌+◌, ◌≡◌, length, refl, sym, ◌∙◌, ap, subst}
+use Rattle.std.proofs.lemmas.Option.{slice_get_within}
 use Rattle.std.specs.Int.{bit_at}
 use Rattle.std.specs.Prelude.{slice_index, Contains}
 use Rattle.rv_select.specs.declared.code.Place.TheVariants.{InReg}
@@ -88,3 +89,10 @@ returns-in-None-clause-room c =
     room_same c.args.items.now (place_in c.args.places.now) c.args.v (33 + c.args.v) c.args.room.now
     (record { walk = c.gather.new.walk; busy = c.args.room.now.busy })
     (own_slot c.args.places.now c.args.v c.requires.last) c.requires.room refl c.in_ok-taken.ensures.idle
+
+pub note_busy-requires : goal.note_busy-requires
+note_busy-requires c k d h =
+    let left = c.in_ok-taken.ensures.left c.in-Some.r c.in-Some.ensures.some.0 c.in-Some.ensures.some.1 in
+    let found = c.as_slice-in-Some.ensures.value in
+    let b = left.walk.sound k d (rw found at h) in
+    rw (found, c.requires.room.size) (slice_get_within c.args.items.now _ b.item b.there)

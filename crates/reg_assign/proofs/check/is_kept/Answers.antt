@@ -11,10 +11,7 @@ pub loop-place-init : goal.loop-place-init
 loop-place-init c = (
   c.in_ok-begin.ensures.number,
   c.in_ok-begin.ensures.walk,
-  record {
-    roots = c.in_ok-begin.ensures.roots;
-    closed = λ j l. let n = c.in_ok-begin.ensures.none in absurd (omega (arith, l, n));
-  },
+  c.in_ok-begin.ensures.closed,
   λ j l. let n = c.in_ok-begin.ensures.none in absurd (omega (arith, l, n)),
 )
 

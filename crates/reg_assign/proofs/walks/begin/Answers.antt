@@ -31,15 +31,18 @@ loop-place-preserved c = (
       c.in_ok-expand.ensures.reaches),
 )
 
-pub returns-clause-roots : goal.returns-clause-roots
-returns-clause-roots c =
+pub returns-clause-closed : goal.returns-clause-closed
+returns-clause-closed c =
     let number = c.loop-place.invariant.0 in
     let lists = under c.args.flow.now.reads in
     let same : c.under-place-items.result.now ≡ lists c.loop-place.walk.number =
     c.under-place-items.ensures ∙ ap lists (sym number) in
-    has_roots c.args.items.now c.loop-place.walk c.loop-place.place-index lists c.requires.reads
-    (let l = ap length same in omega arith)
-    (subst (λ xs. AreReached c.args.items.now (register_at c.loop-place.walk.number) xs c.loop-place.place-index
-    c.loop-place.walk) same
-    (subst (λ n. AreReached c.args.items.now (register_at n) c.under-place-items.result.now c.loop-place.place-index
-    c.loop-place.walk) (sym number) c.loop-place.invariant.3))
+    record {
+      roots = has_roots c.args.items.now c.loop-place.walk c.loop-place.place-index lists c.requires.reads
+          (let l = ap length same in omega arith)
+          (subst (λ xs. AreReached c.args.items.now (register_at c.loop-place.walk.number) xs c.loop-place.place-index
+          c.loop-place.walk) same
+          (subst (λ n. AreReached c.args.items.now (register_at n) c.under-place-items.result.now
+          c.loop-place.place-index c.loop-place.walk) (sym number) c.loop-place.invariant.3));
+      closed = λ j l. let n = c.loop-place.invariant.1 in absurd (omega (arith, l, n));
+    }

@@ -13,3 +13,6 @@ invariant-loop-left l =
     × (l.marks + marks_in (code_of l.left) ≡ l.fn.marks + marks_in (code_of l.fn.code))
     × HasSmallNumbers (code_of l.left)
     × (size-LowCode l.left ≤ size-LowCode l.fn.code)
+
+abbrev pub decreases-loop-left : goal.decreases-loop-left
+decreases-loop-left l = size-LowCode l.left

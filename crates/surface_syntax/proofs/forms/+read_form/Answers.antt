@@ -18,7 +18,7 @@ use Rattle.surface_syntax.proofs.FormParts.{list_row, behind_row, function_row, 
 use Rattle.surface_syntax.proofs.FormParts.{headed_by, plain_answers, none_of, counted_here, gathered_here, plain_body}
 use Rattle.surface_syntax.proofs.FormParts.{typed_here}
 use Rattle.surface_syntax.proofs.Shapes.{one_first}
-use Rattle.surface_syntax.proofs.Loops.{each_more, lets_more, letrecs_more, each_exit, lets_exit, letrecs_exit}
+use Rattle.surface_syntax.proofs.Loops.{each_more, each_exit, bound_more, bound_exit, lets_bind, letrecs_bind}
 use Rattle.surface_syntax.proofs.forms.+read_form.Goals as goal
 
 pub applied-returns-in_err-room : goal.applied-returns-in_err-room
@@ -66,63 +66,43 @@ projection-returns t c =
     (bind_ok _ _ _ _ _ _ _ c.in_ok-tuple-2.ensures
     (plain_answers _ _ _ _ c.projected.ensures))
 
-pub binding-returns-in_err-parts-clause-binding : goal.binding-returns-in_err-parts-clause-binding
-binding-returns-in_err-parts-clause-binding t c =
-    let row = binding_row c.args.scope.now (marked (datum_of c.args.sexp.now)) c.args.names.now in
-    subst (λ w. Parses c.from_residual.result bound_of c.args.names.now w) (sym row)
-    (plain_exit _ _ _ _ _ _ _ _ _ c.in_err-parts.was c.from_residual.ensures.1 c.bound_parts.ensures.parts)
-
 pub binding-returns-in_err-bound-clause-binding : goal.binding-returns-in_err-bound-clause-binding
 binding-returns-in_err-bound-clause-binding t c =
-    let row = binding_row c.args.scope.now (marked (datum_of c.args.sexp.now)) c.args.names.now in
-    subst (λ w. Parses c.from_residual-in_err-bound.result bound_of c.args.names.now w) (sym row)
-    (bind_ok _ _ _ _ _ _ _ (plain_reads _ _ _ c.in_ok-parts.ensures.parts)
-    (plain_exit _ _ _ _ _ _ _ _ _ c.in_err-bound.was c.from_residual-in_err-bound.ensures.1 c.bound_name.ensures.name))
+    subst (λ w. Parses c.from_residual.result bound_of c.args.names.now w)
+    (sym (binding_row c.args.scope.now (marked (datum_of c.args.sexp.now)) c.args.names.now))
+    (plain_exit _ _ _ _ _ _ _ _ _ c.in_err-bound.was c.from_residual.ensures.1 c.bound_to.ensures.name)
 
 pub binding-returns-in_err-value-clause-binding : goal.binding-returns-in_err-value-clause-binding
 binding-returns-in_err-value-clause-binding t c =
-    let row = binding_row c.args.scope.now (marked (datum_of c.args.sexp.now)) c.args.names.now in
-    subst (λ w. Parses c.from_residual-in_err-value.result bound_of c.expr.new.names w) (sym row)
-    (bind_ok _ _ _ _ _ _ _ (plain_reads _ _ _ c.in_ok-parts.ensures.parts)
+    subst (λ w. Parses c.from_residual-in_err-value.result bound_of c.expr.new.names w)
+    (sym (binding_row c.args.scope.now (marked (datum_of c.args.sexp.now)) c.args.names.now))
     (bind_ok _ _ _ _ _ _ _ (plain_reads _ _ _ c.in_ok-bound.ensures.name)
-    (bind_exit _ _ _ _ _ _ _ _ _ c.in_err-value.was c.from_residual-in_err-value.ensures.1 c.expr.ensures)))
+    (bind_exit _ _ _ _ _ _ _ _ _ c.in_err-value.was c.from_residual-in_err-value.ensures.1 c.expr.ensures))
 
 pub binding-returns-clause-binding : goal.binding-returns-clause-binding
 binding-returns-clause-binding t c =
-    let row = binding_row c.args.scope.now (marked (datum_of c.args.sexp.now)) c.args.names.now in
-    row ∙ bind_reads _ _ _ _ _ (plain_reads _ _ _ c.in_ok-parts.ensures.parts)
-    (bind_reads _ _ _ _ _ (plain_reads _ _ _ c.in_ok-bound.ensures.name)
-    (bind_reads _ _ _ _ _ c.in_ok-value.ensures
-    (refl)))
-
-pub member-returns-in_err-parts-clause-member : goal.member-returns-in_err-parts-clause-member
-member-returns-in_err-parts-clause-member t c =
-    let row = member_row c.args.scope.now (marked (datum_of c.args.sexp.now)) c.args.names.now in
-    subst (λ w. Parses c.from_residual.result member_of c.args.names.now w) (sym row)
-    (plain_exit _ _ _ _ _ _ _ _ _ c.in_err-parts.was c.from_residual.ensures.1 c.bound_parts.ensures.parts)
+    binding_row c.args.scope.now (marked (datum_of c.args.sexp.now)) c.args.names.now
+    ∙ bind_reads _ _ _ _ _ (plain_reads _ _ _ c.in_ok-bound.ensures.name)
+    (bind_reads _ _ _ _ _ c.in_ok-value.ensures refl)
 
 pub member-returns-in_err-bound-clause-member : goal.member-returns-in_err-bound-clause-member
 member-returns-in_err-bound-clause-member t c =
-    let row = member_row c.args.scope.now (marked (datum_of c.args.sexp.now)) c.args.names.now in
-    subst (λ w. Parses c.from_residual-in_err-bound.result member_of c.args.names.now w) (sym row)
-    (bind_ok _ _ _ _ _ _ _ (plain_reads _ _ _ c.in_ok-parts.ensures.parts)
-    (plain_exit _ _ _ _ _ _ _ _ _ c.in_err-bound.was c.from_residual-in_err-bound.ensures.1 c.bound_name.ensures.name))
+    subst (λ w. Parses c.from_residual.result member_of c.args.names.now w)
+    (sym (member_row c.args.scope.now (marked (datum_of c.args.sexp.now)) c.args.names.now))
+    (plain_exit _ _ _ _ _ _ _ _ _ c.in_err-bound.was c.from_residual.ensures.1 c.bound_to.ensures.name)
 
 pub member-returns-in_err-fun-clause-member : goal.member-returns-in_err-fun-clause-member
 member-returns-in_err-fun-clause-member t c =
-    let row = member_row c.args.scope.now (marked (datum_of c.args.sexp.now)) c.args.names.now in
-    subst (λ w. Parses c.from_residual-in_err-fun.result member_of c.function.new.names w) (sym row)
-    (bind_ok _ _ _ _ _ _ _ (plain_reads _ _ _ c.in_ok-parts.ensures.parts)
+    subst (λ w. Parses c.from_residual-in_err-fun.result member_of c.function.new.names w)
+    (sym (member_row c.args.scope.now (marked (datum_of c.args.sexp.now)) c.args.names.now))
     (bind_ok _ _ _ _ _ _ _ (plain_reads _ _ _ c.in_ok-bound.ensures.name)
-    (bind_exit _ _ _ _ _ _ _ _ _ c.in_err-fun.was c.from_residual-in_err-fun.ensures.1 c.function.ensures)))
+    (bind_exit _ _ _ _ _ _ _ _ _ c.in_err-fun.was c.from_residual-in_err-fun.ensures.1 c.function.ensures))
 
 pub member-returns-clause-member : goal.member-returns-clause-member
 member-returns-clause-member t c =
-    let row = member_row c.args.scope.now (marked (datum_of c.args.sexp.now)) c.args.names.now in
-    row ∙ bind_reads _ _ _ _ _ (plain_reads _ _ _ c.in_ok-parts.ensures.parts)
-    (bind_reads _ _ _ _ _ (plain_reads _ _ _ c.in_ok-bound.ensures.name)
-    (bind_reads _ _ _ _ _ c.in_ok-fun.ensures
-    (refl)))
+    member_row c.args.scope.now (marked (datum_of c.args.sexp.now)) c.args.names.now
+    ∙ bind_reads _ _ _ _ _ (plain_reads _ _ _ c.in_ok-bound.ensures.name)
+    (bind_reads _ _ _ _ _ c.in_ok-fun.ensures refl)
 
 pub call-returns-in_err-function : goal.call-returns-in_err-function
 call-returns-in_err-function t c =
@@ -365,12 +345,12 @@ letrec_form-returns t c =
 
 pub letrecs-returns-in_err-first : goal.letrecs-returns-in_err-first
 letrecs-returns-in_err-first t c =
-    letrecs_exit _ _ _ _ _ _ _ _ _ _ _ c.in_err-first.was c.from_residual.ensures.1
+    bound_exit letrecs_bind _ _ _ _ _ _ _ _ _ _ _ _ c.in_err-first.was c.from_residual.ensures.1
     (rw c.deref.ensures at c.member.ensures.member) (rw c.in-Cons.is at c.loop-left.invariant.0)
 
 pub lets-returns-in_err-first : goal.lets-returns-in_err-first
 lets-returns-in_err-first t c =
-    lets_exit _ _ _ _ _ _ _ _ _ _ _ c.in_err-first.was c.from_residual.ensures.1
+    bound_exit lets_bind _ _ _ _ _ _ _ _ _ _ _ _ c.in_err-first.was c.from_residual.ensures.1
     (rw c.deref.ensures at c.binding.ensures.binding) (rw c.in-Cons.is at c.loop-left.invariant.0)
 
 pub list-returns-in_default-word_at : goal.list-returns-in_default-word_at
@@ -431,7 +411,7 @@ within-returns t c =
 
 pub lets-loop-left-preserved : goal.lets-loop-left-preserved
 lets-loop-left-preserved t c = (
-  rw (c.deref-left.ensures, c.in_ok-push.ensures) (lets_more _ _ _ _ _ _ _ _ _
+  rw (c.deref-left.ensures, c.in_ok-push.ensures) (bound_more lets_bind _ _ _ _ _ _ _ _ _
       (rw c.deref.ensures at c.in_ok-first.ensures.binding) c.in_ok-first.ensures.bound c.in_ok-first.ensures.source
       (rw c.in-Cons.is at c.loop-left.invariant.0)),
   search (rules, the_lemmas),
@@ -439,7 +419,7 @@ lets-loop-left-preserved t c = (
 
 pub letrecs-loop-left-preserved : goal.letrecs-loop-left-preserved
 letrecs-loop-left-preserved t c = (
-  rw (c.deref-left.ensures, c.in_ok-push.ensures) (letrecs_more _ _ _ _ _ _ _ _ _
+  rw (c.deref-left.ensures, c.in_ok-push.ensures) (bound_more letrecs_bind _ _ _ _ _ _ _ _ _
       (rw c.deref.ensures at c.in_ok-first.ensures.member) c.in_ok-first.ensures.bound c.in_ok-first.ensures.source
       (rw c.in-Cons.is at c.loop-left.invariant.0)),
   search (rules, the_lemmas),

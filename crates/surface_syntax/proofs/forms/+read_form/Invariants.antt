@@ -3,7 +3,8 @@ use Rattle.sexpr_reader.specs.declared.sexps.SexpList.{size-SexpList}
 use Rattle.sexpr_reader.specs.View.{datums_of}
 use Rattle.surface_syntax.specs.Marked.{all_marked}
 use Rattle.surface_syntax.specs.Pass.{parse_each, parse_lets, parse_letrecs}
-use Rattle.surface_syntax.proofs.Loops.{behind_exprs, behind_lets, behind_letrecs}
+use Rattle.surface_syntax.specs.Parts.{lets_before, letrecs_before}
+use Rattle.surface_syntax.proofs.Loops.{behind_exprs, with_list}
 use Rattle.surface_syntax.proofs.forms.+read_form.Given as goal
 
 -- what is gathered and what the pass reads behind it are what it reads in all
@@ -15,12 +16,12 @@ invariant-each-loop-left l =
 
 abbrev pub invariant-lets-loop-left : goal.invariant-lets-loop-left
 invariant-lets-loop-left l =
-    (behind_lets l.gathered.items (parse_lets l.scope (all_marked (datums_of l.left)) l.names)
+    (with_list (lets_before l.gathered.items) (parse_lets l.scope (all_marked (datums_of l.left)) l.names)
     ≡ parse_lets [] (all_marked (datums_of l.fn.list)) l.fn.names)
     × (size-SexpList l.left ≤ size-SexpList l.fn.list)
 
 abbrev pub invariant-letrecs-loop-left : goal.invariant-letrecs-loop-left
 invariant-letrecs-loop-left l =
-    (behind_letrecs l.gathered.items (parse_letrecs l.scope (all_marked (datums_of l.left)) l.names)
+    (with_list (letrecs_before l.gathered.items) (parse_letrecs l.scope (all_marked (datums_of l.left)) l.names)
     ≡ parse_letrecs [] (all_marked (datums_of l.fn.list)) l.fn.names)
     × (size-SexpList l.left ≤ size-SexpList l.fn.list)

@@ -6,4 +6,4 @@ pub returns-clause-made : goal.returns-clause-made
 returns-clause-made c =
     let e = c.in_ok-label.ensures in
     label_interned c.args.pos (work_of c.args.self.now) c.intern.new.self c.in_ok-label.label.0 c.len.ensures.distinct
-    e.interned e.place
+    e.interned e.number

@@ -1,18 +1,17 @@
 use Rattle.std.proofs.Common.{◌≡◌, ◌≤◌, ◌+◌, ◌++◌, List, [], ℕ, length}
 use Rattle.core_calc.specs.Views.{names_of}
-use Rattle.coer_core.specs.Counts.{free_names, free_names_of_all, free_names_of_bindings, free_names_of_members}
+use Rattle.coer_core.specs.Counts.{free_names_of_all, free_names_of_bindings, free_names_of_members}
 use Rattle.coer_core.specs.Counts.{row_binding_names, row_member_count}
-use Rattle.coer_core.specs.Views.{row_term_of, row_terms_of, row_members_of, row_bindings_of}
-use Rattle.coer_core.specs.declared.terms.CoerTerm.{size-CoerTerm}
+use Rattle.coer_core.specs.Views.{row_terms_of, row_members_of, row_bindings_of}
 use Rattle.coer_core.specs.declared.terms.CoerList.{size-CoerList}
 use Rattle.coer_core.specs.declared.terms.CoerMembers.{size-CoerMembers}
 use Rattle.coer_core.specs.declared.terms.CoerBindings.{size-CoerBindings}
 use Rattle.flat_ir.specs.declared.code.Operand.{Operand}
 use Rattle.flat_ir.specs.Bodies.{Body}
-use Rattle.closure_convert.specs.Conversion.{Scope, code, gather, gather_let, made, made_by, made_for, made_in}
-use Rattle.closure_convert.specs.Conversion.{procs_by, procs_for, procs_in, procs_of, sequence}
+use Rattle.closure_convert.specs.Conversion.{Scope, gather, gather_let, made_by, made_for, made_in}
+use Rattle.closure_convert.specs.Conversion.{procs_by, procs_for, procs_in, sequence}
 use Rattle.closure_convert.specs.Converting.{State, Adds, bodies, parts_of, seen, state}
-use Rattle.closure_convert.specs.Keeping.{Kept, Opened}
+use Rattle.closure_convert.specs.Keeping.{Kept}
 use Rattle.closure_convert.specs.Scopes.{Reaches, known}
 use Rattle.closure_convert.specs.Waits.{ahead}
 use Rattle.closure_convert.proofs.conversion.Converter.+conversion.Given as goal
@@ -31,7 +30,7 @@ invariant-gather-loop-left l = record {
       → ahead l.waits.waits.items (gather (row_terms_of l.left) (seen l.fn.self outer) l.waits.depth
       (length l.self.procs) (front ++ l.operands) finish)
       ≡ ahead l.fn.waits.waits.items (gather (row_terms_of l.terms) (seen l.fn.self outer) l.fn.waits.depth
-      (length l.fn.self.procs) (front ++ l.fn.operands) finish);
+      (length l.fn.self.procs) front finish);
   smaller : size-CoerList l.left ≤ size-CoerList l.fn.terms;
 }
 
@@ -83,18 +82,4 @@ invariant-functions-loop-left l = record {
       → parts_of l.functions.items ++ bodies (seen l.fn.self outer) (row_members_of l.left) (length l.self.procs)
       ≡ bodies (seen l.fn.self outer) (row_members_of l.members) (length l.fn.self.procs);
   smaller : size-CoerMembers l.left ≤ size-CoerMembers l.fn.members;
-}
-
-abbrev pub invariant-inside-loop-left : goal.invariant-inside-loop-left
-invariant-inside-loop-left l = record {
-  opened : Opened l.fn.self.names l.self.names;
-  adds : (end : State) → Adds (known l.self.names) (state l.self) end (free_names (row_term_of l.left))
-      (procs_of (row_term_of l.left)) (made (row_term_of l.left))
-      → Adds (known l.fn.self.names) (state l.fn.self) end (free_names (row_term_of l.term))
-      (procs_of (row_term_of l.term)) (made (row_term_of l.term));
-  body : (outer : Scope) → Reaches l.self.names.captured outer
-      → ahead l.waits.waits.items (code (row_term_of l.left) (seen l.self outer) l.waits.depth
-      (length l.self.procs))
-      ≡ code (row_term_of l.term) (seen l.fn.self outer) l.depth (length l.fn.self.procs);
-  smaller : size-CoerTerm l.left ≤ size-CoerTerm l.fn.term;
 }

@@ -1,0 +1,4 @@
+// Tests by subject, and what they share.
+
+mod listings;
+mod places;

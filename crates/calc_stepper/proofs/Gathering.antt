@@ -1,0 +1,25 @@
+-- What loops keep that go along a list and gather what they make of it.
+use Rattle.std.proofs.Common.{◌≡◌, ◌≤◌, ◌∙◌, ◌++◌, ◌∷◌, [], ℕ, List, ap, ap₂, append_assoc}
+use Rattle.calc_stepper.specs.Holes.{Holes}
+
+-- what is left, with what is done in front of it, is the whole, and is no larger
+abbrev pub Copying : {L A : Type 0} → (A → A → A) → (L → A) → (L → ℕ) → L → L → L → Type 0
+Copying onto view size done left all = record {
+  whole : onto (view done) (view left) ≡ view all;
+  smaller : size left ≤ size all;
+}
+
+-- what is left with its holes filled, and in front of it what is done, is the whole
+abbrev pub Filling : {L A : Type 0} → (A → A → A) → (A → Holes → A) → (A → Holes → Holes) → (L → A) → (L → ℕ) → L → L →
+    L → Holes → Holes → Type 0
+Filling onto filled behind view size done left all holes first = record {
+  whole : onto (view done) (filled (view left) holes) ≡ filled (view all) first;
+  rest : behind (view left) holes ≡ behind (view all) first;
+  smaller : size left ≤ size all;
+}
+
+-- a name more, and what is left behind it
+pub name_pushed : (done pushed others left whole : List ℕ) (given name : ℕ) → pushed ≡ done ++ given ∷ [] →
+    left ≡ others → given ≡ name → done ++ name ∷ others ≡ whole → pushed ++ left ≡ whole
+name_pushed done pushed others left whole given name more behind same e =
+    ap₂ ◌++◌ more behind ∙ append_assoc done (given ∷ []) others ∙ ap (λ n. done ++ n ∷ others) same ∙ e

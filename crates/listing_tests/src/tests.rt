@@ -1,0 +1,6 @@
+// Tests by subject, and what they share.
+
+mod casts;
+mod codes;
+mod programs;
+mod readings;

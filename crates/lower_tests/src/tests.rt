@@ -1,0 +1,6 @@
+// Tests by subject, and what they share.
+
+mod images;
+mod merged;
+mod piled;
+mod programs;

@@ -1,0 +1,12 @@
+// Tests by subject, and what they share.
+
+mod arithmetic;
+mod calls;
+mod closed;
+mod machines;
+mod programs;
+mod proxies;
+mod selections;
+mod sizes;
+mod storage;
+mod walks;
