@@ -20,7 +20,9 @@ use Rattle.core_calc.specs.Casts.{cast_step}
 use Rattle.core_calc.specs.Calls.{enter_step, proj_step, proj_dyn_step}
 use Rattle.core_calc.specs.Operators.{operator_step}
 use Rattle.core_calc.specs.Step.{step, step_terms, step_bindings, if_step, let_step}
-use Rattle.calc_stepper.specs.Moves.{After, after, after_inside}
+use Rattle.core_calc.specs.declared.terms.Core.{Core}
+use Rattle.core_calc.specs.Views.{term_of}
+use Rattle.calc_stepper.specs.Moves.{After, Moves, MovesBy, after, after_inside}
 use Rattle.calc_stepper.specs.Redexes.{lambda_redex, group_redex, cast_redex, if_redex, let_redex, seq_redex}
 use Rattle.calc_stepper.specs.Redexes.{call_redex, enter_redex, proj_redex}
 use Rattle.calc_stepper.specs.Redexes.{proj_dyn_redex, tuple_redex, prim_redex, waits_for_first, enters_now, is_redex}
@@ -409,39 +411,7 @@ module _ (types : TypeRows) (store : Store) (world : WorldState) where
       redex_steps_so whole g
       ∙ ap (λ o. after o whole store world) (ap redex_outcome e ∙ f ∙ ap go (sym e))
 
-  -- the same of what is answered, where the equation holds for all types, cells and worlds
-  pub answers : (whole form item : Term) (go : TypeRows → Store → WorldState → Term → Outcome Term)
-      (r : Result Moved OutOfMemory) → whole ≡ form → redex_outcome form ≡ go types store world form →
-      is_redex whole ≡ true →
-      IfOk r (λ moved. (t : TypeRows) (s : Store) (w : WorldState) → after (go t s w whole) whole s w
-      ≡ record { moved = moved; item = item; store = s; world = w }) →
-      IfOk r (λ moved. after_step types store world whole
-      ≡ record { moved = moved; item = item; store = store; world = world })
-  answers whole form item go r e f g h =
-      IfOk-weaker r
-      (λ moved. (t : TypeRows) (s : Store) (w : WorldState) → after (go t s w whole) whole s w
-      ≡ record { moved = moved; item = item; store = s; world = w })
-      (λ moved. after_step types store world whole
-      ≡ record { moved = moved; item = item; store = store; world = world })
-      (λ moved k. step_of_form whole form (go types store world) e f g ∙ k types store world) h
-
-  -- or for all cells and worlds
-  pub answers_here : (whole form item : Term) (go : Store → WorldState → Term → Outcome Term)
-      (r : Result Moved OutOfMemory) → whole ≡ form → redex_outcome form ≡ go store world form →
-      is_redex whole ≡ true →
-      IfOk r (λ moved. (s : Store) (w : WorldState) → after (go s w whole) whole s w
-      ≡ record { moved = moved; item = item; store = s; world = w }) →
-      IfOk r (λ moved. after_step types store world whole
-      ≡ record { moved = moved; item = item; store = store; world = world })
-  answers_here whole form item go r e f g h =
-      IfOk-weaker r
-      (λ moved. (s : Store) (w : WorldState) → after (go s w whole) whole s w
-      ≡ record { moved = moved; item = item; store = s; world = w })
-      (λ moved. after_step types store world whole
-      ≡ record { moved = moved; item = item; store = store; world = world })
-      (λ moved k. step_of_form whole form (go store world) e f g ∙ k store world) h
-
-  -- or for these, and the step changes them
+  -- the same of what is answered, where the step changes the cells and the world
   pub answers_now : (whole form : Term) (go : Term → Outcome Term) (r : Result Moved OutOfMemory)
       (d : Moved → After Term) → whole ≡ form → redex_outcome form ≡ go form → is_redex whole ≡ true →
       IfOk r (λ moved. after (go whole) whole store world ≡ d moved) →
@@ -492,3 +462,42 @@ module _ (types : TypeRows) (store : Store) (world : WorldState) where
       ap (λ x. all x w whole) (sym es) ∙ ap (λ x. all store x whole) (sym ew)
       ∙ sym p ∙ ap (λ x. after_inside onto (all store world x)) el ∙ ap (after_inside onto) stuck
       ∙ ap (λ x. come IsStuck x store world) (sym eo)
+
+-- ---- what a call answers, told what its term was taken for
+
+module _ (types : TypeRows) (store : Store) (world : WorldState) (item : Term) (r : Result Moved OutOfMemory)
+    {core next : Core} (is : core ≡ next) where
+  -- where what it gives holds for all types, cells and worlds
+  pub answers : (go : TypeRows → Store → WorldState → Term → Outcome Term) →
+      redex_outcome types store world (term_of next) ≡ go types store world (term_of next) →
+      is_redex (term_of core) ≡ true → IfOk r (MovesBy go (term_of core) item) →
+      IfOk r (λ moved. after_step types store world (term_of core) ≡ come moved item store world)
+  answers go f g h =
+      IfOk-weaker r (MovesBy go (term_of core) item)
+      (λ moved. after_step types store world (term_of core) ≡ come moved item store world)
+      (λ moved k. step_of_form types store world (term_of core) (term_of next) (go types store world) (ap term_of is) f
+      g ∙ k types store world) h
+
+  -- or for all cells and worlds
+  pub answers_here : (go : Store → WorldState → Term → Outcome Term) →
+      redex_outcome types store world (term_of next) ≡ go store world (term_of next) →
+      is_redex (term_of core) ≡ true → IfOk r (Moves go (term_of core) item) →
+      IfOk r (λ moved. after_step types store world (term_of core) ≡ come moved item store world)
+  answers_here go f g h =
+      IfOk-weaker r (Moves go (term_of core) item)
+      (λ moved. after_step types store world (term_of core) ≡ come moved item store world)
+      (λ moved k. step_of_form types store world (term_of core) (term_of next) (go store world) (ap term_of is) f g
+      ∙ k store world) h
+
+module _ (types : TypeRows) (store : Store) (world : WorldState) (r : Result Moved OutOfMemory)
+    (d : Moved → After Terms) (terms : Terms) {core next : Core} (is : core ≡ next) where
+  -- where terms in it take the step
+  pub terms_answer : {redex : Bool} (place : Terms → Term) →
+      ((t : TypeRows) (s : Store) (w : WorldState) (all : Terms) → is_redex (place all) ≡ false →
+      after_step t s w (place all) ≡ after_inside place (after_terms t s w all)) →
+      term_of next ≡ place terms → redex ≡ is_redex (term_of core) → redex ≡ false →
+      IfOk r (λ moved. after_terms types store world terms ≡ d moved) →
+      IfOk r (λ moved. after_step types store world (term_of core) ≡ after_inside place (d moved))
+  terms_answer {redex} place steps p f g h =
+      part_answers types store world (term_of core) (place terms) place (after_terms types store world terms) redex r d
+      (ap term_of is ∙ p) f g (steps types store world terms) h

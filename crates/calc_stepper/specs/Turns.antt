@@ -33,6 +33,11 @@ abbrev pub LeadsTo : Outcome Term → Store → WorldState → Turn → Store �
 LeadsTo outcome store world turn next_store next_world =
     (old : Term) → after outcome old store world ≡ turn_after turn old next_store next_world
 
+-- so with all types, cells and outsides, which it leaves as they are
+abbrev pub LeadsAlways : (TypeRows → Store → WorldState → Outcome Term) → Turn → Type 0
+LeadsAlways outcome turn = (types : TypeRows) (store : Store) (world : WorldState) →
+    LeadsTo (outcome types store world) store world turn store world
+
 -- operands as a list, where there are at most three
 abbrev pub values_in : Operands → Option (List Value)
 values_in Zero = Some []

@@ -14,9 +14,9 @@ ghost use Rattle.core_calc.specs.Terms.{LocValue, all_values};
 ghost use Rattle.core_calc.specs.Views.{term_of, terms_of, value_of};
 ghost use Rattle.calc_stepper.specs.Moves.{after};
 ghost use Rattle.calc_stepper.specs.Redexes.{prim_redex};
-ghost use Rattle.calc_stepper.specs.Turns.{HasElement, LeadsTo, cast_operand, element_at, element_set, element_written};
-ghost use Rattle.calc_stepper.specs.Turns.{few, integers_step, on_integers, one_step, only_value, place_below};
-ghost use Rattle.calc_stepper.specs.Turns.{three_step, two_step, values_in, vector_cell, zero_step};
+ghost use Rattle.calc_stepper.specs.Turns.{HasElement, LeadsAlways, LeadsTo, cast_operand, element_at, element_set};
+ghost use Rattle.calc_stepper.specs.Turns.{element_written, few, integers_step, on_integers, one_step, only_value};
+ghost use Rattle.calc_stepper.specs.Turns.{place_below, three_step, two_step, values_in, vector_cell, zero_step};
 
 use crate::copies::{copy_as_value, copy_value};
 use crate::forms::content_of;
@@ -44,6 +44,9 @@ pub enum Turn {
     /// It has no step on these values.
     Stuck,
 }
+
+// What it comes to, unless no memory was left.
+type Turned = Result<Turn, OutOfMemory>;
 
 /// The operands of an operator, as values.
 #[derive(Drop)]
@@ -90,8 +93,7 @@ fn operands_in(alloc: Global, operands: &CoreList) -> Result<Operands, OutOfMemo
 
 // The quotient, cut off before the point.
 fn quotient(a: i64, b: i64) -> Turn
-    ensures { (types : TypeRows) (store : Store) (world : WorldState)
-        → LeadsTo (integers_step types store world Quot a b) store world result store world }
+    ensures { LeadsAlways (λ types store world. integers_step types store world Quot a b) result }
 {
     if b == 0 {
         Turn::Traps(Trap::ZeroDivisor)
@@ -102,8 +104,7 @@ fn quotient(a: i64, b: i64) -> Turn
 
 // The remainder of that quotient.
 fn remainder(a: i64, b: i64) -> Turn
-    ensures { (types : TypeRows) (store : Store) (world : WorldState)
-        → LeadsTo (integers_step types store world Rem a b) store world result store world }
+    ensures { LeadsAlways (λ types store world. integers_step types store world Rem a b) result }
 {
     if b == 0 {
         Turn::Traps(Trap::ZeroDivisor)
@@ -148,7 +149,7 @@ fn computed(operator: PrimOp, first: &Value, second: &Value) -> Turn
 }
 
 // A new cell of these values.
-fn new_cell(store: &mut Cells, values: Vec<Value>, is_vector: bool) -> Result<Turn, OutOfMemory>
+fn new_cell(store: &mut Cells, values: Vec<Value>, is_vector: bool) -> Turned
     ensures ok { IfOk result (λ turn. (types : TypeRows) (world : WorldState)
         → LeadsTo (new_cell types (store_of store.old) world (map value_of values.items) is_vector)
         (store_of store.old) world turn (store_of store.new) world) }
@@ -183,12 +184,7 @@ fn copies_of(alloc: Global, v: &Value, count: u64) -> Result<Vec<Value>, OutOfMe
 }
 
 // A new vector: its length, and the value that stands at each place.
-fn make_vector(
-    alloc: Global,
-    store: &mut Cells,
-    size: &Value,
-    v: &Value,
-) -> Result<Turn, OutOfMemory>
+fn make_vector(alloc: Global, store: &mut Cells, size: &Value, v: &Value) -> Turned
     ensures ok { IfOk result (λ turn. (types : TypeRows) (world : WorldState)
         → LeadsTo (make_vector_step types (store_of store.old) world (value_of size.now ∷ value_of v.now ∷ []))
         (store_of store.old) world turn (store_of store.new) world) }
@@ -212,7 +208,7 @@ fn cast_read(
     from: TypeId,
     label: LabelId,
     to: TypeId,
-) -> Result<Turn, OutOfMemory>
+) -> Turned
     ensures { IfOk result (λ turn. (store : Store) (world : WorldState)
         → LeadsTo (cast_read types.now store world (term_of read) from.0 to.0 label.0) store world turn store world) }
 {
@@ -263,7 +259,7 @@ fn only_value(values: &[Value]) -> Option<&Value>
 }
 
 // Reads the cell of a box.
-fn read_box(alloc: Global, store: &Cells, cell: u32) -> Result<Turn, OutOfMemory>
+fn read_box(alloc: Global, store: &Cells, cell: u32) -> Turned
     ensures { IfOk result (λ turn. (types : TypeRows) (world : WorldState)
         → LeadsTo (with_some (slice_get (store_of store.now) cell) (unbox_cell types (store_of store.now) world))
         (store_of store.now) world turn (store_of store.now) world) }
@@ -274,16 +270,10 @@ fn read_box(alloc: Global, store: &Cells, cell: u32) -> Result<Turn, OutOfMemory
     let Some(v) = only_value(values) else {
         return Ok(Turn::Stuck);
     };
-    let v = copy_value(alloc, v)?;
-    Ok(Turn::Becomes(Core::Value(v)))
+    Ok(Turn::Becomes(Core::Value(copy_value(alloc, v)?)))
 }
 
-fn unbox(
-    alloc: Global,
-    types: &TypeTable,
-    store: &Cells,
-    mut target: Value,
-) -> Result<Turn, OutOfMemory>
+fn unbox(alloc: Global, types: &TypeTable, store: &Cells, mut target: Value) -> Turned
     ensures { IfOk result (λ turn. (world : WorldState)
         → LeadsTo (unbox_step types.now (store_of store.now) world (value_of target ∷ [])) (store_of store.now) world
         turn (store_of store.now) world) }
@@ -301,7 +291,7 @@ fn unbox(
 }
 
 // Writes the cell of a box.
-fn write_box(alloc: Global, store: &mut Cells, cell: u32, v: Value) -> Result<Turn, OutOfMemory>
+fn write_box(alloc: Global, store: &mut Cells, cell: u32, v: Value) -> Turned
     ensures ok { IfOk result (λ turn. (types : TypeRows) (world : WorldState)
         → LeadsTo (with_some (slice_get (store_of store.old) cell)
         (λ old. writes_cell types (store_of store.old) world cell (value_of v ∷ [])))
@@ -322,7 +312,7 @@ fn box_set(
     store: &mut Cells,
     mut target: Value,
     v: Value,
-) -> Result<Turn, OutOfMemory>
+) -> Turned
     ensures ok { IfOk result (λ turn. (world : WorldState)
         → LeadsTo (box_set_step types.now (store_of store.old) world (value_of target ∷ value_of v ∷ []))
         (store_of store.old) world turn (store_of store.new) world) }
@@ -377,7 +367,7 @@ fn vector_cell(v: &Value) -> Option<u32>
 }
 
 // Reads the cell of a vector.
-fn read_vector(alloc: Global, store: &Cells, cell: u32, index: &Value) -> Result<Turn, OutOfMemory>
+fn read_vector(alloc: Global, store: &Cells, cell: u32, index: &Value) -> Turned
     ensures { IfOk result (λ turn. (types : TypeRows) (world : WorldState)
         → LeadsTo (vector_ref_step types (store_of store.now) world (LocValue cell true ∷ value_of index.now ∷ []))
         (store_of store.now) world turn (store_of store.now) world) }
@@ -391,8 +381,7 @@ fn read_vector(alloc: Global, store: &Cells, cell: u32, index: &Value) -> Result
     let Some(v) = element_at(elements, *index) else {
         return Ok(Turn::Traps(Trap::Index));
     };
-    let v = copy_value(alloc, v)?;
-    Ok(Turn::Becomes(Core::Value(v)))
+    Ok(Turn::Becomes(Core::Value(copy_value(alloc, v)?)))
 }
 
 fn vector_ref(
@@ -401,7 +390,7 @@ fn vector_ref(
     store: &Cells,
     mut vector: Value,
     index: Value,
-) -> Result<Turn, OutOfMemory>
+) -> Turned
     ensures { IfOk result (λ turn. (world : WorldState)
         → LeadsTo (vector_ref_step types.now (store_of store.now) world (value_of vector ∷ value_of index ∷ []))
         (store_of store.now) world turn (store_of store.now) world) }
@@ -438,7 +427,7 @@ fn set_element(
     index: i64,
     place: usize,
     v: Value,
-) -> Result<Turn, OutOfMemory>
+) -> Turned
     requires { HasElement (store_of store.old) (value_of vector) place }
     ensures ok { IfOk result (λ turn. (world : WorldState)
         → LeadsTo (element_set types.now (store_of store.old) world (value_of vector) index place (value_of v))
@@ -471,7 +460,7 @@ fn vector_set(
     vector: Value,
     index: &Value,
     v: Value,
-) -> Result<Turn, OutOfMemory>
+) -> Turned
     ensures ok { IfOk result (λ turn. (world : WorldState)
         → LeadsTo (vector_set_step types.now (store_of store.old) world
         (value_of vector ∷ value_of index.now ∷ value_of v ∷ [])) (store_of store.old) world turn
@@ -494,7 +483,7 @@ fn vector_set(
 }
 
 // The length of a vector's cell.
-fn cell_length(store: &Cells, cell: u32) -> Result<Turn, OutOfMemory>
+fn cell_length(store: &Cells, cell: u32) -> Turned
     ensures { IfOk result (λ turn. (types : TypeRows) (world : WorldState)
         → LeadsTo (vector_length_step types (store_of store.now) world (LocValue cell true ∷ []))
         (store_of store.now) world turn (store_of store.now) world) }
@@ -508,7 +497,7 @@ fn cell_length(store: &Cells, cell: u32) -> Result<Turn, OutOfMemory>
     }
 }
 
-fn vector_length(alloc: Global, store: &Cells, mut vector: Value) -> Result<Turn, OutOfMemory>
+fn vector_length(alloc: Global, store: &Cells, mut vector: Value) -> Turned
     ensures { IfOk result (λ turn. (types : TypeRows) (world : WorldState)
         → LeadsTo (vector_length_step types (store_of store.now) world (value_of vector ∷ []))
         (store_of store.now) world turn (store_of store.now) world) }
@@ -525,7 +514,7 @@ fn vector_length(alloc: Global, store: &Cells, mut vector: Value) -> Result<Turn
 }
 
 // Prints an integer.
-fn print_int(world: &mut World, v: &Value) -> Result<Turn, OutOfMemory>
+fn print_int(world: &mut World, v: &Value) -> Turned
     ensures ok { IfOk result (λ turn. (types : TypeRows) (store : Store)
         → LeadsTo (one_step types store world.old PrintInt (value_of v.now)) store world.old turn store world.new) }
     ensures err { OnErr result (world.new ≡ world.old) }
@@ -538,7 +527,7 @@ fn print_int(world: &mut World, v: &Value) -> Result<Turn, OutOfMemory>
 }
 
 // An operator without operands.
-fn on_nothing(world: &mut World, operator: PrimOp) -> Result<Turn, OutOfMemory>
+fn on_nothing(world: &mut World, operator: PrimOp) -> Turned
     ensures ok { IfOk result (λ turn. (types : TypeRows) (store : Store)
         → LeadsTo (zero_step types store world.old operator) store world.old turn store world.new) }
     ensures err { OnErr result (world.new ≡ world.old) }
@@ -557,8 +546,7 @@ fn on_nothing(world: &mut World, operator: PrimOp) -> Result<Turn, OutOfMemory>
 }
 
 fn negated(v: &Value) -> Turn
-    ensures { (types : TypeRows) (store : Store) (world : WorldState)
-        → LeadsTo (one_step types store world Not (value_of v.now)) store world result store world }
+    ensures { LeadsAlways (λ types store world. one_step types store world Not (value_of v.now)) result }
 {
     match v {
         Value::Bool(b) => Turn::Becomes(Core::Value(Value::Bool(!*b))),
@@ -574,7 +562,7 @@ fn on_one(
     world: &mut World,
     operator: PrimOp,
     v: Value,
-) -> Result<Turn, OutOfMemory>
+) -> Turned
     ensures ok { IfOk result (λ turn.
         LeadsTo (one_step types.now (store_of store.old) world.old operator (value_of v)) (store_of store.old) world.old
         turn (store_of store.new) world.new) }
@@ -601,7 +589,7 @@ fn on_two(
     operator: PrimOp,
     first: Value,
     second: Value,
-) -> Result<Turn, OutOfMemory>
+) -> Turned
     ensures ok { IfOk result (λ turn. (world : WorldState)
         → LeadsTo (two_step types.now (store_of store.old) world operator (value_of first) (value_of second))
         (store_of store.old) world turn (store_of store.new) world) }
@@ -624,7 +612,7 @@ fn on_three(
     first: Value,
     second: Value,
     third: Value,
-) -> Result<Turn, OutOfMemory>
+) -> Turned
     ensures ok { IfOk result (λ turn. (world : WorldState)
         → LeadsTo (three_step types.now (store_of store.old) world operator (value_of first) (value_of second)
         (value_of third)) (store_of store.old) world turn (store_of store.new) world) }
@@ -644,7 +632,7 @@ fn operated(
     world: &mut World,
     operator: PrimOp,
     operands: Operands,
-) -> Result<Turn, OutOfMemory>
+) -> Turned
     ensures ok { IfOk result (λ turn.
         LeadsTo (with_some (values_in operands) (operator_step types.now (store_of store.old) world.old operator))
         (store_of store.old) world.old turn (store_of store.new) world.new) }

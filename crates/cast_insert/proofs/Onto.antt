@@ -18,25 +18,26 @@ front_append : {A L : Type 0} (put : A → L → L) (xs ys : List A) (rest : L) 
 front_append put [] ys rest = refl
 front_append put (x ∷ xs) ys rest = ap (put x) (front_append put xs ys rest)
 
--- what is put in front one after another stands there turned round
-record Gathers {A L : Type 0} (put : A → L → L) (onto : List A → L → L) : Type 0 where
-  none : (rest : L) → onto [] rest ≡ rest
-  more : (x : A) (xs : List A) (rest : L) → onto (x ∷ xs) rest ≡ onto xs (put x rest)
+-- elements are put in front of a list one after another
+abbrev Gathers : {A L : Type 0} → (A → L → L) → (List A → L → L) → Type 0
+Gathers {A} {L} put onto =
+    ((rest : L) → onto [] rest ≡ rest) × ((x : A) (xs : List A) (rest : L) → onto (x ∷ xs) rest ≡ onto xs (put x rest))
 
+-- so they stand there turned round
 gathered_turned : {A L : Type 0} (put : A → L → L) (onto : List A → L → L) → Gathers put onto → (xs : List A)
     (rest : L) → onto xs rest ≡ in_front put (reverse xs) rest
-gathered_turned put onto h [] rest = h.none rest
+gathered_turned put onto h [] rest = h.0 rest
 gathered_turned put onto h (x ∷ xs) rest =
-    h.more x xs rest
+    h.1 x xs rest
     ∙ gathered_turned put onto h xs (put x rest)
     ∙ sym (front_append put (reverse xs) (x ∷ []) rest)
     ∙ ap (λ ys. in_front put ys rest) (sym (reverse-append (x ∷ []) xs))
 
 -- the list with these elements turned round is what is gathered of them
 turned_gathered : {A L : Type 0} (put : A → L → L) (onto : List A → L → L) (none : L) (list : L → List A) →
-    Gathers put onto → ((all : L) → in_front put (list all) none ≡ all) → (all turned : L) →
+    ((all : L) → in_front put (list all) none ≡ all) → Gathers put onto → (all turned : L) →
     list turned ≡ reverse (list all) → turned ≡ onto (list all) none
-turned_gathered put onto none list h again all turned e =
+turned_gathered put onto none list again h all turned e =
     sym (again turned) ∙ ap (λ xs. in_front put xs none) e ∙ sym (gathered_turned put onto h (list all) none)
 
 -- ---- terms
@@ -47,9 +48,7 @@ terms_again (TermThen term rest) = ap (TermThen term) (terms_again rest)
 
 pub turned_onto : (terms turned : Terms) → term_list turned ≡ reverse (term_list terms) →
     turned ≡ terms_onto (term_list terms) NoTerms
-turned_onto terms turned e =
-    turned_gathered TermThen terms_onto NoTerms term_list
-    (record { none = λ rest. refl; more = λ x xs rest. refl }) terms_again terms turned e
+turned_onto = turned_gathered TermThen terms_onto NoTerms term_list terms_again (λ rest. refl, λ x xs rest. refl)
 
 -- ---- bindings
 
@@ -62,9 +61,8 @@ bindings_again (BindingThen name bound rest) = ap (BindingThen name bound) (bind
 
 pub bindings_turned : (bindings turned : Bindings) → binding_list turned ≡ reverse (binding_list bindings) →
     turned ≡ bindings_onto (binding_list bindings) NoBindings
-bindings_turned bindings turned e =
-    turned_gathered bind bindings_onto NoBindings binding_list
-    (record { none = λ rest. refl; more = λ x xs rest. refl }) bindings_again bindings turned e
+bindings_turned =
+    turned_gathered bind bindings_onto NoBindings binding_list bindings_again (λ rest. refl, λ x xs rest. refl)
 
 -- ---- members
 
@@ -78,6 +76,5 @@ members_again (MemberThen name parameters body type rest) =
 
 pub members_turned : (members turned : Members) → member_list turned ≡ reverse (member_list members) →
     turned ≡ members_onto (member_list members) NoMembers
-members_turned members turned e =
-    turned_gathered join members_onto NoMembers member_list
-    (record { none = λ rest. refl; more = λ x xs rest. refl }) members_again members turned e
+members_turned =
+    turned_gathered join members_onto NoMembers member_list members_again (λ rest. refl, λ x xs rest. refl)

@@ -12,7 +12,9 @@ use Rattle.closure_convert.specs.declared.conversion.Function.{Function}
 use Rattle.closure_convert.specs.declared.names.Names.{Names}
 use Rattle.closure_convert.specs.Conversion.{Scope, bind_operands, captures, code, made, numbered}
 use Rattle.closure_convert.specs.Conversion.{made_by, made_for, own_procs, procs_by, procs_for, procs_in, procs_of}
-use Rattle.closure_convert.specs.Scopes.{known, over, with_all_free}
+use Rattle.closure_convert.specs.declared.waits.Waits.{Waits}
+use Rattle.closure_convert.specs.Scopes.{Reaches, known, over, with_all_free}
+use Rattle.closure_convert.specs.Waits.{ahead}
 
 -- what grows while a function is converted: its captured names, and the procedures
 pub record State : Type 0 where
@@ -50,6 +52,18 @@ abbrev pub AddsBindings : Converter → Converter → RowBindings → Type 0
 AddsBindings old new bindings =
     Adds (known old.names) (state old) (state new) (free_names_of_bindings bindings) (procs_by bindings)
     (made_by bindings)
+
+-- so, where what is left adds this to what is there, all adds it to what was there first
+abbrev pub AddsRest : {A : Type 0} → (A → List ℕ) → (A → ℕ → List Proc) → (A → ℕ) → Converter → Converter → A → A
+    → Type 0
+AddsRest names procs count first here left all = (end : State)
+    → Adds (known first.names) (state here) end (names left) (procs left) (count left)
+    → Adds (known first.names) (state first) end (names all) (procs all) (count all)
+
+-- behind what is bound, a body is the one that is made, by what is known outside, behind what was bound before
+abbrev pub PutsBody : Names → Waits → Waits → Body → (Scope → Body) → Type 0
+PutsBody names before after body made = (outer : Scope) → Reaches names.captured outer
+    → ahead after.waits.items body ≡ ahead before.waits.items (made outer)
 
 -- a function's count of parameters, and its body
 abbrev pub parts_of : List Function → List (ℕ × Body)

@@ -13,8 +13,8 @@ ghost use Rattle.flat_ir.specs.Views.{body_of, procs_of as procs_in_memory};
 ghost use Rattle.closure_convert.specs.Conversion.{Scope, alone, atom, bind_operands, captures, code, converted};
 ghost use Rattle.closure_convert.specs.Conversion.{gather, gather_let, made, made_in, meanings_of, numbered};
 ghost use Rattle.closure_convert.specs.Conversion.{placed, procs_in, procs_of, sequence};
-ghost use Rattle.closure_convert.specs.Converting.{Adds, AddsBindings, AddsTerm, AddsTerms, Hides, as_procs, bodies};
-ghost use Rattle.closure_convert.specs.Converting.{group_procs, parts_of, seen, state};
+ghost use Rattle.closure_convert.specs.Converting.{Adds, AddsBindings, AddsTerm, AddsTerms, Hides, PutsBody, as_procs};
+ghost use Rattle.closure_convert.specs.Converting.{bodies, group_procs, parts_of, seen, state};
 ghost use Rattle.closure_convert.specs.Keeping.{Kept, Opened};
 ghost use Rattle.closure_convert.specs.Programs.{HasNoFreeNames};
 ghost use Rattle.closure_convert.specs.Scopes.{Reaches, known, with_all_free};
@@ -171,9 +171,8 @@ impl Converter {
     fn sequence(&mut self, waits: &mut Waits, terms: &CoerList) -> Result<FlatBody, OutOfMemory>
         ensures kept { OnOk result (Kept self.old.names self.new.names) }
         ensures adds { OnOk result (AddsTerms self.old self.new (row_terms_of terms.now)) }
-        ensures body { IfOk result (λ b. (outer : Scope) → Reaches self.new.names.captured outer
-            → ahead waits.new.waits.items (body_of b) ≡ ahead waits.old.waits.items
-            (sequence (row_terms_of terms.now) (seen self.old outer) waits.old.depth (length self.old.procs))) }
+        ensures body { IfOk result (λ b. PutsBody self.new.names waits.old waits.new (body_of b) (λ outer.
+            sequence (row_terms_of terms.now) (seen self.old outer) waits.old.depth (length self.old.procs))) }
     {
         let mut left = terms;
         while let CoerList::Cons(first, rest) = left {
@@ -399,9 +398,8 @@ impl Converter {
     fn last(&mut self, waits: &mut Waits, term: &CoerTerm) -> Result<FlatBody, OutOfMemory>
         ensures opened { OnOk result (Opened self.old.names self.new.names) }
         ensures adds { OnOk result (AddsTerm self.old self.new (row_term_of term.now)) }
-        ensures body { IfOk result (λ b. (outer : Scope) → Reaches self.new.names.captured outer
-            → ahead waits.new.waits.items (body_of b) ≡ ahead waits.old.waits.items
-            (code (row_term_of term.now) (seen self.old outer) waits.old.depth (length self.old.procs))) }
+        ensures body { IfOk result (λ b. PutsBody self.new.names waits.old waits.new (body_of b) (λ outer.
+            code (row_term_of term.now) (seen self.old outer) waits.old.depth (length self.old.procs))) }
     {
         let last = match term {
             CoerTerm::Int(n) => moved(Operand::Int(*n)),

@@ -48,16 +48,23 @@ pub fn have_words(term: &CoerTerm)
     }
 }
 
+// So it is of each term that stands in a list.
+macro_rules! each_has_words {
+    ($list:ident, $type:ident, $first:ident => $term:expr) => {{
+        let mut left = $list;
+        while let $type::Cons($first, rest) = left {
+            have_words($term);
+            left = rest;
+        }
+    }};
+}
+
 // So it is of terms in order.
 #[cycle(dyn_parts)]
 fn all_have_words(terms: &CoerList)
     ensures { list_all has_words (terms_uses (row_terms_of terms.now)) ≡ true }
 {
-    let mut left = terms;
-    while let CoerList::Cons(first, rest) = left {
-        have_words(first);
-        left = rest;
-    }
+    each_has_words!(terms, CoerList, first => first)
 }
 
 // So it is of the functions of a group.
@@ -65,11 +72,7 @@ fn all_have_words(terms: &CoerList)
 fn members_have_words(members: &CoerMembers)
     ensures { list_all has_words (member_uses (row_members_of members.now)) ≡ true }
 {
-    let mut left = members;
-    while let CoerMembers::Cons(first, rest) = left {
-        have_words(&first.body);
-        left = rest;
-    }
+    each_has_words!(members, CoerMembers, first => &first.body)
 }
 
 // So it is of the terms that names are bound to.
@@ -77,9 +80,5 @@ fn members_have_words(members: &CoerMembers)
 fn bindings_have_words(bindings: &CoerBindings)
     ensures { list_all has_words (binding_uses (row_bindings_of bindings.now)) ≡ true }
 {
-    let mut left = bindings;
-    while let CoerBindings::Cons(first, rest) = left {
-        have_words(&first.value);
-        left = rest;
-    }
+    each_has_words!(bindings, CoerBindings, first => &first.value)
 }

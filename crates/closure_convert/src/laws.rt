@@ -2,35 +2,21 @@
 
 ghost use Rattle.std.specs.Prelude.{◌≡◌, ◌≤◌, ◌++◌, Bool, cond, false, length, true, ℕ, List};
 ghost use Rattle.std.specs.List.{list_all};
-ghost use Rattle.run_laws.specs.Accounts.{FollowsWithin};
-ghost use Rattle.run_laws.specs.Runs.{Any, FollowsBy, NeverWrong};
+ghost use Rattle.run_laws.specs.{Accounts.{FollowsWithin}, Runs.{Any, FollowsBy, NeverWrong}};
 ghost use Rattle.type_graph.specs.TypeTables.{HaveWidths, IsOrderedTable};
-ghost use Rattle.grift_base.specs.Tables.{HasNoRepeats};
-ghost use Rattle.grift_base.specs.Types.{TypeRows};
-ghost use Rattle.core_calc.specs.Account.{Measures, account, extent, measures_of};
-ghost use Rattle.core_calc.specs.Calculus.{Program};
-ghost use Rattle.core_calc.specs.Substitution.{is_among};
-ghost use Rattle.core_calc.specs.Typing.{ProgramTermHasType};
-ghost use Rattle.cast_modes.specs.AnswerTypes.{Told};
-ghost use Rattle.coercion_norm.specs.Coercions.{Coercion};
-ghost use Rattle.coercion_norm.specs.MergedMode.{merging};
-ghost use Rattle.cast_modes.specs.Modes.{TypeCast, piling};
-ghost use Rattle.coer_core.specs.Counts.{each_once, free_names, free_names_of_members, names_besides, run_in};
-ghost use Rattle.coer_core.specs.Counts.{told_of};
-ghost use Rattle.coer_core.specs.MergedTally.{merged_tally_in};
-ghost use Rattle.coer_core.specs.Tally.{tally_in};
-ghost use Rattle.coer_core.specs.Terms.{RowMembers, RowTerm, core_of};
-ghost use Rattle.flat_ir.specs.Bodies.{Proc};
-ghost use Rattle.flat_ir.specs.Closed.{is_closed};
-ghost use Rattle.flat_ir.specs.Counts.{flat_run_in, flat_turn_words};
-ghost use Rattle.flat_ir.specs.Levels.{HaveLevels};
-ghost use Rattle.flat_ir.specs.Machine.{FlatState};
-ghost use Rattle.closure_convert.specs.Bounds.{CountsKept};
-ghost use Rattle.closure_convert.specs.Conversion.{captures, converted, made};
+ghost use Rattle.grift_base.specs.{Tables.{HasNoRepeats}, Types.{TypeRows}};
+ghost use Rattle.core_calc.specs.{Account.{Measures, account, extent, measures_of}, Calculus.{Program}};
+ghost use Rattle.core_calc.specs.{Substitution.{is_among}, Typing.{ProgramTermHasType}};
+ghost use Rattle.cast_modes.specs.{AnswerTypes.{Told}, Modes.{TypeCast, piling}};
+ghost use Rattle.coercion_norm.specs.{Coercions.{Coercion}, MergedMode.{merging}};
+ghost use Rattle.coer_core.specs.Counts.{each_once, free_names, free_names_of_members, names_besides, run_in, told_of};
+ghost use Rattle.coer_core.specs.{MergedTally.{merged_tally_in}, Tally.{tally_in}};
+ghost use Rattle.coer_core.specs.{Terms.{RowMembers, RowTerm, core_of}, TurnPrices.{merged_prices, piled_prices}};
+ghost use Rattle.flat_ir.specs.{Bodies.{Proc}, Closed.{is_closed}, Counts.{flat_run_in, flat_turn_words}};
+ghost use Rattle.flat_ir.specs.{Levels.{HaveLevels}, Machine.{FlatState}};
 ghost use Rattle.flat_ir.specs.FlatTally.{FlatBelow, FlatPaidBelow, cost_of_turn, flat_tally_in};
-ghost use Rattle.closure_convert.specs.KeptTallies.{KeepsTally, PaysTally};
-ghost use Rattle.coer_core.specs.TurnPrices.{merged_prices, piled_prices};
-ghost use Rattle.closure_convert.specs.Free.{is_free, is_free_in_a_member};
+ghost use Rattle.closure_convert.specs.{Bounds.{CountsKept}, Conversion.{captures, converted, made}};
+ghost use Rattle.closure_convert.specs.{KeptTallies.{KeepsTally, PaysTally}, Free.{is_free, is_free_in_a_member}};
 ghost use Rattle.closure_convert.specs.Uses.{has_words, term_uses};
 
 /// The procedures of a term that reads back to a program term are closed where no type is too wide, and where numbers

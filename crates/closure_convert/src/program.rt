@@ -1,28 +1,18 @@
 // Programs of procedures.
 
 ghost use Rattle.std.specs.Prelude.{◌≡◌, ℕ, List, false, length, true, IfOk};
-ghost use Rattle.run_laws.specs.Accounts.{FollowsWithin};
-ghost use Rattle.run_laws.specs.Runs.{Any, FollowsBy, NeverWrong};
+ghost use Rattle.run_laws.specs.{Accounts.{FollowsWithin}, Runs.{Any, FollowsBy, NeverWrong}};
 ghost use Rattle.type_graph.specs.TypeTables.{HaveWidths, IsOrderedTable};
 ghost use Rattle.grift_base.specs.Types.{TypeRows};
-ghost use Rattle.core_calc.specs.Account.{account, extent, measures_of};
-ghost use Rattle.core_calc.specs.Calculus.{Program};
+ghost use Rattle.core_calc.specs.{Account.{account, extent, measures_of}, Calculus.{Program}};
 ghost use Rattle.core_calc.specs.Typing.{ProgramTermHasType};
-ghost use Rattle.cast_modes.specs.AnswerTypes.{Told};
+ghost use Rattle.cast_modes.specs.{AnswerTypes.{Told}, Modes.{TypeCast, piling}};
 ghost use Rattle.coercion_norm.specs.MergedMode.{merging};
-ghost use Rattle.cast_modes.specs.Modes.{TypeCast, piling};
-ghost use Rattle.coer_core.specs.Counts.{run_in, told_of};
-ghost use Rattle.coer_core.specs.Terms.{core_of};
-ghost use Rattle.coer_core.specs.Views.{row_term_of};
-ghost use Rattle.flat_ir.specs.Closed.{is_closed};
-ghost use Rattle.flat_ir.specs.Counts.{flat_run_in};
-ghost use Rattle.flat_ir.specs.Levels.{HaveLevels};
-ghost use Rattle.flat_ir.specs.Views.{procs_of};
-ghost use Rattle.closure_convert.specs.Bounds.{CountsKept};
-ghost use Rattle.closure_convert.specs.Conversion.{converted, made};
-ghost use Rattle.flat_ir.specs.FlatTally.{FlatBelow, FlatPaidBelow, flat_tally_in};
+ghost use Rattle.coer_core.specs.{Counts.{run_in, told_of}, Terms.{core_of}, Views.{row_term_of}};
 ghost use Rattle.coer_core.specs.TurnPrices.{merged_prices, piled_prices};
-ghost use Rattle.closure_convert.specs.Programs.{HasNoFreeNames};
+ghost use Rattle.flat_ir.specs.{Closed.{is_closed}, Counts.{flat_run_in}, Levels.{HaveLevels}, Views.{procs_of}};
+ghost use Rattle.flat_ir.specs.FlatTally.{FlatBelow, FlatPaidBelow, flat_tally_in};
+ghost use Rattle.closure_convert.specs.{Bounds.{CountsKept}, Conversion.{converted, made}, Programs.{HasNoFreeNames}};
 
 use crate::conversion::Converter;
 use crate::dyn_parts::have_words;

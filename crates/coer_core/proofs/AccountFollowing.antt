@@ -25,12 +25,13 @@ use Rattle.coer_core.specs.Terms.{RowTermThen}
 use Rattle.coer_core.specs.Machine.{Eval, turn, ending_at, after_turn, running}
 use Rattle.coer_core.specs.Machine.{run_start, Calling, Tupling, Operating, IfFrame, SeqFrame, FunFrame, ProjDynFrame}
 use Rattle.coer_core.specs.Machine.{GatherFrame, LetFrame}
+use Rattle.coer_core.specs.Machine.{CoerFocus}
 use Rattle.coer_core.specs.Counts.{eval_words}
 use Rattle.coer_core.specs.Tally.{kind_asks, kind_budget, function_words, made_words, kind_acts, Tally}
 use Rattle.coer_core.specs.Tally.{Tallied, untallied, kind_of_turn, asks_of_turn, budget_of_turn, tally_of}
 use Rattle.coer_core.specs.Tally.{tallying, SpentBelow, Below}
 use Rattle.coer_core.proofs.Relation.{size_of}
-use Rattle.coer_core.proofs.Unload.{PiledStore, PiledFrame, PiledFocus, PiledAfter, PiledState}
+use Rattle.coer_core.proofs.Unload.{PiledStore, PiledFrame, PiledAfter, PiledState}
 use Rattle.coer_core.proofs.Unload.{store_of}
 use Rattle.coer_core.proofs.Moves.{IsOfKind}
 use Rattle.coer_core.proofs.Following.{Keeps, R, Going, Ended, Quiet, Acting, Does, does, alike, next_related}
@@ -81,12 +82,13 @@ module _ (n : ℕ) where
   eval_fits (RowGroup members body) f = f.0
   eval_fits _ f = omega arith
 
-  function_fits : (focus : PiledFocus) → FitFocus n focus → function_words focus ≤ n
+  function_fits : (focus : CoerFocus TypeCast) → FitFocus n focus → function_words focus ≤ n
   function_fits (Own (Eval term env)) f = eval_fits term f.0
   function_fits (Return v) f = omega arith
   function_fits (Entering function done todo) f = omega arith
 
-  made_fits : (focus : PiledFocus) (k : List PiledFrame) → FitFocus n focus → FitFrames n k → made_words focus k ≤ n
+  made_fits : (focus : CoerFocus TypeCast) (k : List PiledFrame) → FitFocus n focus → FitFrames n k
+      → made_words focus k ≤ n
   made_fits (Own (Eval term env)) k f g = eval_fits term f.0
   made_fits (Return v) [] f g = omega arith
   made_fits (Return v) (CastFrame cast ∷ k) f g = omega arith

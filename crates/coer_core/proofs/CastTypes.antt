@@ -23,8 +23,9 @@ use Rattle.core_calc.specs.Typing.{AreWrittenMembers, AreWrittenBindings}
 use Rattle.coercion_norm.specs.declared.casts.Cast.{Cast as RustCast}
 use Rattle.coercion_norm.specs.CoercionTables.{IsCast}
 use Rattle.cast_modes.specs.Modes.{TypeCast, type_cast}
-use Rattle.coer_core.specs.Conversion.{casts_in, casts_in_all, casts_in_members, casts_in_bindings, same_cast}
+use Rattle.coer_core.specs.Conversion.{casts_in, all_casts, same_cast}
 use Rattle.coer_core.specs.Conversion.{with_cast}
+use Rattle.coer_core.specs.Gathered.{gathered_of_all, gathered_of_members, gathered_of_bindings}
 use Rattle.coer_core.specs.Conversion.{with_casts, cast_views}
 
 module _ (types : TypeRows) where
@@ -196,17 +197,17 @@ module _ (types : TypeRows) (labels : ℕ) (cells : List CellType) (table : IsTy
         (members_in_table (member_types members ++ context) members h.0) c in
         let r = term_in (member_types members ++ context) body type inner w.1 h.1 in (
           r.0,
-          casts_append types (casts_in_members members) (casts_in body)
+          casts_append types (gathered_of_members all_casts members) (casts_in body)
               (all_members_in (member_types members ++ context) members inner w.0 h.0) r.1,
         )
     term_in context (Let bindings body) type c w h =
         let b = bindings_in context bindings h.0 c w.0 h.1 in
         let r = term_in (h.0 ++ context) body type (names_append types h.0 context b.0 c) w.1 h.2 in
-        (r.0, casts_append types (casts_in_bindings bindings) (casts_in body) b.1 r.1)
+        (r.0, casts_append types (gathered_of_bindings all_casts bindings) (casts_in body) b.1 r.1)
     term_in context (Call function arguments) type c w h =
         let f = term_in context function h.0 c w.0 h.2 in (
           last_in types h.1 type (parts_in h.0 (FunRow h.1 type) h.3),
-          casts_append types (casts_in function) (casts_in_all arguments) f.1
+          casts_append types (casts_in function) (gathered_of_all all_casts arguments) f.1
               (all_in context arguments h.1 c w.1 h.4),
         )
     term_in context (Enter function arguments) type c w h = absurd w
@@ -236,40 +237,41 @@ module _ (types : TypeRows) (labels : ℕ) (cells : List CellType) (table : IsTy
     term_in context (ValueTerm v) type c w h = absurd w
 
     all_in : (context : Context) (terms : Terms) (wanted : List ℕ) → NamesIn types context → AreWritten terms
-        → HaveTypes types labels cells context terms wanted → CastsIn types (casts_in_all terms)
+        → HaveTypes types labels cells context terms wanted → CastsIn types (gathered_of_all all_casts terms)
     all_in context NoTerms wanted c w h = tt
     all_in context (TermThen term rest) wanted c w h =
-        casts_append types (casts_in term) (casts_in_all rest) (term_in context term h.0 c w.0 h.3).1
+        casts_append types (casts_in term) (gathered_of_all all_casts rest) (term_in context term h.0 c w.0 h.3).1
         (all_in context rest h.1 c w.1 h.4)
 
     last_term_in : (context : Context) (terms : Terms) (type : ℕ) → NamesIn types context → AreWritten terms
-        → LastHasType types labels cells context terms type → In types type × CastsIn types (casts_in_all terms)
+        → LastHasType types labels cells context terms type
+        → In types type × CastsIn types (gathered_of_all all_casts terms)
     last_term_in context NoTerms type c w h = absurd h
     last_term_in context (TermThen term NoTerms) type c w h =
         let r = term_in context term type c w.0 h in (r.0, casts_append types (casts_in term) [] r.1 tt)
     last_term_in context (TermThen term (TermThen second rest)) type c w h =
         let r = last_term_in context (TermThen second rest) type c w.1 h.1 in (
           r.0,
-          casts_append types (casts_in term) (casts_in_all (TermThen second rest))
+          casts_append types (casts_in term) (gathered_of_all all_casts (TermThen second rest))
               (term_in context term h.0.0 c w.0 h.0.1).1 r.1,
         )
 
     all_members_in : (context : Context) (members : Members) → NamesIn types context → AreWrittenMembers members
-        → MembersHaveTypes types labels cells context members → CastsIn types (casts_in_members members)
+        → MembersHaveTypes types labels cells context members → CastsIn types (gathered_of_members all_casts members)
     all_members_in context NoMembers c w h = tt
     all_members_in context (MemberThen name parameters body type rest) c w h =
-        casts_append types (casts_in body) (casts_in_members rest)
+        casts_append types (casts_in body) (gathered_of_members all_casts rest)
         (term_in (h.0.2 ++ context) body h.0.1 (body_names context parameters type _ c h.0) w.0 h.0.5).1
         (all_members_in context rest c w.1 h.1)
 
     bindings_in : (context : Context) (bindings : Bindings) (bound : Context) → NamesIn types context
         → AreWrittenBindings bindings → BindingsHaveTypes types labels cells context bindings bound
-        → NamesIn types bound × CastsIn types (casts_in_bindings bindings)
+        → NamesIn types bound × CastsIn types (gathered_of_bindings all_casts bindings)
     bindings_in context NoBindings bound c w h = (subst (NamesIn types) (sym h) tt, tt)
     bindings_in context (BindingThen name term rest) bound c w h =
         let t = term_in context term h.0 c w.0 h.3 in
         let r = bindings_in context rest h.1 c w.1 h.4 in (
           subst (NamesIn types) (sym h.2) (t.0, r.0),
-          casts_append types (casts_in term) (casts_in_bindings rest) t.1
+          casts_append types (casts_in term) (gathered_of_bindings all_casts rest) t.1
               r.1,
         )

@@ -6,7 +6,9 @@ use Rattle.std.proofs.Common.{◌∙◌}
 use Rattle.std.proofs.Common.{if◌then◌else◌, slice_get}
 use Rattle.std.proofs.Common.{◌<◌, length}
 use Rattle.std.proofs.lemmas.Option.{slice_get_within}
-use Rattle.coer_core.specs.Uses.{NumbersBelow, AllBelow, MembersBelow, BindingsBelow}
+use Rattle.coer_core.specs.Uses.{NumbersBelow, all_below, all_uses}
+use Rattle.coer_core.specs.Holding.{AllHold, MembersHold, BindingsHold}
+use Rattle.coer_core.specs.Gathered.{gathered_of_all, gathered_of_members, gathered_of_bindings}
 use Rattle.std.specs.Prelude.{nat_eq, ◌&&◌}
 use Rattle.std.specs.List.{list_any}
 use Rattle.std.proofs.lemmas.Bool.{eqb-true}
@@ -16,11 +18,11 @@ use Rattle.core_calc.specs.Terms.{NoMembers, MemberThen, NoBindings, BindingThen
 use Rattle.core_calc.specs.Typing.{IsWritten, AreWritten, AreWrittenMembers, AreWrittenBindings}
 use Rattle.cast_modes.specs.Modes.{TypeCast, type_cast}
 use Rattle.coer_core.specs.Terms.{cast_by, core_of, core_terms, core_members, core_bindings}
-use Rattle.coer_core.specs.Conversion.{casts_in, casts_in_all, casts_in_members, casts_in_bindings, same_cast}
+use Rattle.coer_core.specs.Conversion.{casts_in, all_casts, same_cast}
 use Rattle.coer_core.specs.Conversion.{number_of, with_cast, with_casts, converted, converted_all, converted_members}
 use Rattle.coer_core.specs.Conversion.{converted_bindings}
-use Rattle.coer_core.specs.Uses.{OperatorUse, DynPartUse, CastUse, uses_in, uses_in_all, uses_in_members}
-use Rattle.coer_core.specs.Uses.{uses_in_bindings, row_uses, listed_of_all, listed_of_members, listed_of_bindings}
+use Rattle.coer_core.specs.Uses.{OperatorUse, DynPartUse, CastUse, uses_in}
+use Rattle.coer_core.specs.Uses.{row_uses, listed_of_all, listed_of_members, listed_of_bindings}
 use Rattle.coer_core.specs.Uses.{cast_use, operator_use}
 use Rattle.coer_core.proofs.Joining.{ap2, ap3}
 
@@ -231,15 +233,15 @@ mutual
   in_order (Group members body) casts =
       let first = converted_members casts members in
       in_order body first.casts ∙ ap (λ m. with_casts m (casts_in body)) (in_order_members members casts)
-      ∙ sym (with_append casts (casts_in_members members) (casts_in body))
+      ∙ sym (with_append casts (gathered_of_members all_casts members) (casts_in body))
   in_order (Let bindings body) casts =
       let first = converted_bindings casts bindings in
       in_order body first.casts ∙ ap (λ m. with_casts m (casts_in body)) (in_order_bindings bindings casts)
-      ∙ sym (with_append casts (casts_in_bindings bindings) (casts_in body))
+      ∙ sym (with_append casts (gathered_of_bindings all_casts bindings) (casts_in body))
   in_order (Call function arguments) casts =
       let first = converted casts function in
-      in_order_all arguments first.casts ∙ ap (λ m. with_casts m (casts_in_all arguments)) (in_order function casts)
-      ∙ sym (with_append casts (casts_in function) (casts_in_all arguments))
+      in_order_all arguments first.casts ∙ ap (λ m. with_casts m (gathered_of_all all_casts arguments))
+      (in_order function casts) ∙ sym (with_append casts (casts_in function) (gathered_of_all all_casts arguments))
   in_order (Enter function arguments) casts = refl
   in_order (If condition on_true on_false) casts =
       let first = converted casts condition in
@@ -260,28 +262,28 @@ mutual
   in_order (ValueTerm v) casts = refl
 
   in_order_all : (terms : Terms) (casts : List TypeCast)
-      → (converted_all casts terms).casts ≡ with_casts casts (casts_in_all terms)
+      → (converted_all casts terms).casts ≡ with_casts casts (gathered_of_all all_casts terms)
   in_order_all NoTerms casts = refl
   in_order_all (TermThen term rest) casts =
       let first = converted casts term in
-      in_order_all rest first.casts ∙ ap (λ m. with_casts m (casts_in_all rest)) (in_order term casts)
-      ∙ sym (with_append casts (casts_in term) (casts_in_all rest))
+      in_order_all rest first.casts ∙ ap (λ m. with_casts m (gathered_of_all all_casts rest)) (in_order term casts)
+      ∙ sym (with_append casts (casts_in term) (gathered_of_all all_casts rest))
 
   in_order_members : (members : Members) (casts : List TypeCast)
-      → (converted_members casts members).casts ≡ with_casts casts (casts_in_members members)
+      → (converted_members casts members).casts ≡ with_casts casts (gathered_of_members all_casts members)
   in_order_members NoMembers casts = refl
   in_order_members (MemberThen name parameters body type rest) casts =
       let first = converted casts body in
-      in_order_members rest first.casts ∙ ap (λ m. with_casts m (casts_in_members rest)) (in_order body casts)
-      ∙ sym (with_append casts (casts_in body) (casts_in_members rest))
+      in_order_members rest first.casts ∙ ap (λ m. with_casts m (gathered_of_members all_casts rest))
+      (in_order body casts) ∙ sym (with_append casts (casts_in body) (gathered_of_members all_casts rest))
 
   in_order_bindings : (bindings : Bindings) (casts : List TypeCast)
-      → (converted_bindings casts bindings).casts ≡ with_casts casts (casts_in_bindings bindings)
+      → (converted_bindings casts bindings).casts ≡ with_casts casts (gathered_of_bindings all_casts bindings)
   in_order_bindings NoBindings casts = refl
   in_order_bindings (BindingThen name bound rest) casts =
       let first = converted casts bound in
-      in_order_bindings rest first.casts ∙ ap (λ m. with_casts m (casts_in_bindings rest)) (in_order bound casts)
-      ∙ sym (with_append casts (casts_in bound) (casts_in_bindings rest))
+      in_order_bindings rest first.casts ∙ ap (λ m. with_casts m (gathered_of_bindings all_casts rest))
+      (in_order bound casts) ∙ sym (with_append casts (casts_in bound) (gathered_of_bindings all_casts rest))
 
 -- ---- what stands in both
 
@@ -316,21 +318,21 @@ mutual
   same_uses (ValueTerm v) casts w = absurd w
 
   same_uses_all : (terms : Terms) (casts : List TypeCast) → AreWritten terms
-      → listed_of_all cast_use DynPartUse operator_use (converted_all casts terms).term ≡ uses_in_all terms
+      → listed_of_all cast_use DynPartUse operator_use (converted_all casts terms).term ≡ gathered_of_all all_uses terms
   same_uses_all NoTerms casts w = refl
   same_uses_all (TermThen term rest) casts w =
       ap2 (λ x y. x ++ y) (same_uses term casts w.0) (same_uses_all rest (converted casts term).casts w.1)
 
   same_uses_members : (members : Members) (casts : List TypeCast) → AreWrittenMembers members
       → listed_of_members cast_use DynPartUse operator_use (converted_members casts members).term
-      ≡ uses_in_members members
+      ≡ gathered_of_members all_uses members
   same_uses_members NoMembers casts w = refl
   same_uses_members (MemberThen name parameters body type rest) casts w =
       ap2 (λ x y. x ++ y) (same_uses body casts w.0) (same_uses_members rest (converted casts body).casts w.1)
 
   same_uses_bindings : (bindings : Bindings) (casts : List TypeCast) → AreWrittenBindings bindings
       → listed_of_bindings cast_use DynPartUse operator_use (converted_bindings casts bindings).term
-      ≡ uses_in_bindings bindings
+      ≡ gathered_of_bindings all_uses bindings
   same_uses_bindings NoBindings casts w = refl
   same_uses_bindings (BindingThen name bound rest) casts w =
       ap2 (λ x y. x ++ y) (same_uses bound casts w.0) (same_uses_bindings rest (converted casts bound).casts w.1)
@@ -390,7 +392,7 @@ mutual
   numbers (ValueTerm v) casts later b = tt
 
   numbers_of_all : (terms : Terms) (casts later : List TypeCast) → Begins (converted_all casts terms).casts later
-      → AllBelow (length later) (converted_all casts terms).term
+      → AllHold (all_below (length later)) (converted_all casts terms).term
   numbers_of_all NoTerms casts later b = tt
   numbers_of_all (TermThen term rest) casts later b =
       let first = converted casts term in
@@ -398,7 +400,7 @@ mutual
 
   numbers_of_members : (members : Members) (casts later : List TypeCast)
       → Begins (converted_members casts members).casts later
-      → MembersBelow (length later) (converted_members casts members).term
+      → MembersHold (all_below (length later)) (converted_members casts members).term
   numbers_of_members NoMembers casts later b = tt
   numbers_of_members (MemberThen name parameters body type rest) casts later b =
       let first = converted casts body in (
@@ -408,7 +410,7 @@ mutual
 
   numbers_of_bindings : (bindings : Bindings) (casts later : List TypeCast)
       → Begins (converted_bindings casts bindings).casts later
-      → BindingsBelow (length later) (converted_bindings casts bindings).term
+      → BindingsHold (all_below (length later)) (converted_bindings casts bindings).term
   numbers_of_bindings NoBindings casts later b = tt
   numbers_of_bindings (BindingThen name bound rest) casts later b =
       let first = converted casts bound in (

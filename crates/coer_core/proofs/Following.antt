@@ -25,10 +25,11 @@ use Rattle.coer_core.specs.Terms.{RowTerm, core_of}
 use Rattle.coer_core.specs.Counts.{wraps_of_turn, wraps_of_step, kind_wraps}
 use Rattle.coer_core.specs.Machine.{code_arity, Eval, turn, ended_at, ending_at, state_at, after_turn, running}
 use Rattle.coer_core.specs.Machine.{run_start}
+use Rattle.coer_core.specs.Machine.{CoerFocus}
 use Rattle.coer_core.specs.Tally.{turn_kind, kind_of_turn, made_wraps}
 use Rattle.coer_core.proofs.Plugging.{Steps, plug_step}
 use Rattle.coer_core.proofs.Relation.{cast_term, sub, Is, Plugged, TermOf, size_of}
-use Rattle.coer_core.proofs.Unload.{PiledValue, PiledStore, PiledFrame, PiledFocus, PiledAfter, PiledState, value_of}
+use Rattle.coer_core.proofs.Unload.{PiledValue, PiledStore, PiledFrame, PiledAfter, PiledState, value_of}
 use Rattle.coer_core.proofs.Unload.{store_of, shown_same}
 use Rattle.coer_core.proofs.Matching.{Matched, Fit}
 use Rattle.coer_core.proofs.Moves.{IsOfKind, Silently, Stepping, Moves, eval_moves, FitFrame, back_moves, enter_moves}
@@ -57,7 +58,7 @@ module _ (types : TypeRows) (rows : List TypeCast) (labels : List Pos) (answer :
 
   -- both go on
   pub record Going (c : CalcState) (s : PiledState) : Type 0 where
-    pub focus : PiledFocus
+    pub focus : CoerFocus TypeCast
     pub frames : List PiledFrame
     pub store : PiledStore
     pub world : WorldState
@@ -116,12 +117,14 @@ module _ (types : TypeRows) (rows : List TypeCast) (labels : List Pos) (answer :
       → option_map (ending_of labels) o ≡ Some (ending_of labels end)
   ending_some o end e = ap (option_map (ending_of labels)) e
 
-  blank_ending : (end : CalcEnd) (focus : PiledFocus) → IsBlank end → ending_at told end focus ≡ ending_of labels end
+  blank_ending : (end : CalcEnd) (focus : CoerFocus TypeCast) → IsBlank end
+      → ending_at told end focus ≡ ending_of labels end
   blank_ending (Answered shown) focus b = absurd b
   blank_ending _ focus b = refl
 
-  module _ (focus : PiledFocus) (frames : List PiledFrame) (store : PiledStore) (world : WorldState) (whole : Term)
-      (unended : ended_at focus frames ≡ None) (fine : Good (state_of whole (store_of rows store) world)) where
+  module _ (focus : CoerFocus TypeCast) (frames : List PiledFrame) (store : PiledStore) (world : WorldState)
+      (whole : Term) (unended : ended_at focus frames ≡ None)
+      (fine : Good (state_of whole (store_of rows store) world)) where
     abbrev c : CalcState
     c = state_of whole (store_of rows store) world
 
@@ -245,8 +248,8 @@ module _ (types : TypeRows) (rows : List TypeCast) (labels : List Pos) (answer :
   fit_frame v (CastFrame cast) k h whole store world g p e = keeps.casts k v cast h whole store world g p e
   fit_frame v _ k h whole store world g p e = tt
 
-  going_does : (focus : PiledFocus) (frames : List PiledFrame) (store : PiledStore) (world : WorldState) (whole : Term)
-      → Good (state_of whole (store_of rows store) world) → TermOf rows focus frames whole
+  going_does : (focus : CoerFocus TypeCast) (frames : List PiledFrame) (store : PiledStore) (world : WorldState)
+      (whole : Term) → Good (state_of whole (store_of rows store) world) → TermOf rows focus frames whole
       → Does (state_of whole (store_of rows store) world) (state_at focus frames store world)
   going_does (Own (Eval term env)) frames store world whole gd t =
       moves_do (Own (Eval term env)) frames store world whole refl gd frames (sub rows term env)

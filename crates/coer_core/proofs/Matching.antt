@@ -25,9 +25,10 @@ use Rattle.coer_core.specs.Terms.{RowTerm, RowMembers, NoRowMembers, RowMemberTh
 use Rattle.coer_core.specs.Machine.{Code, LambdaCode, MemberCode, code_arity, env_names, env_values, paired}
 use Rattle.coer_core.specs.Machine.{captured_env, members_in, group_env, Evaluation, Eval, entered_body, entered_member}
 use Rattle.coer_core.specs.Machine.{entered}
+use Rattle.coer_core.specs.Machine.{CoerValues}
 use Rattle.coer_core.proofs.Plugging.{calc_apply}
 use Rattle.coer_core.proofs.Relation.{terms_onto, cast_term, casts_term, sub, Is, Spelled, Pended, Plugged, TermOf}
-use Rattle.coer_core.proofs.Unload.{PiledValue, PiledValues, PiledEnv, PiledStore, PiledPending, PiledFrame, PiledAfter}
+use Rattle.coer_core.proofs.Unload.{PiledValue, PiledEnv, PiledStore, PiledPending, PiledFrame, PiledAfter}
 use Rattle.coer_core.proofs.Unload.{group_with, value_of, values_of, entries_of, store_of, captured_entries}
 use Rattle.coer_core.proofs.Unload.{entries_again, entries_append, members_entries, BoundBoth, bound_both, row_list_of}
 use Rattle.coer_core.proofs.Unload.{names_of_members}
@@ -229,14 +230,14 @@ module _ (types : TypeRows) (rows : List TypeCast) (store : PiledStore) (world :
       → entries_of rows (members_in group (env_names env) (in_row (env_values env)) group 0 ++ env)
       ≡ group_values (group_with rows group (entries_of rows env)) ++ entries_of rows env
   group_entries group env =
-      let captured : PiledValues = in_row (env_values env) in
+      let captured : CoerValues TypeCast = in_row (env_values env) in
       let s : Substitution = paired (env_names env) (value_list (values_of rows captured)) in
       entries_append rows (members_in group (env_names env) captured group 0) env
       ∙ ap (λ l. l ++ entries_of rows env)
       (members_entries rows group (env_names env) captured (without (member_names (core_members rows group)) s) group 0
       ∙ ap (λ z. group_values (group_with rows group z)) (entries_again rows env))
 
-  module _ (group : RowMembers) (names : List ℕ) (captured : PiledValues) where
+  module _ (group : RowMembers) (names : List ℕ) (captured : CoerValues TypeCast) where
     abbrev inner : PiledEnv
     inner = group_env group names captured
 
@@ -275,7 +276,7 @@ module _ (types : TypeRows) (rows : List TypeCast) (store : PiledStore) (world :
         (substitute (core_of rows body) (without parameters hidden)) values (member_body body parameters)
     m_member k (RowMemberThen name parameters body type rest) (suc place) values = m_member k rest place values
 
-  lambda_body : (names : List ℕ) (captured : PiledValues) (body : RowTerm) (parameters : List ℕ)
+  lambda_body : (names : List ℕ) (captured : CoerValues TypeCast) (body : RowTerm) (parameters : List ℕ)
       → SameBody parameters body (captured_env names captured) []
       (substitute (core_of rows body) (without parameters (paired names (value_list (values_of rows captured)))))
   lambda_body names captured body parameters bound entries e n =

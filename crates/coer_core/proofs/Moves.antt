@@ -37,13 +37,14 @@ use Rattle.coer_core.specs.Tally.{enter_kind, back_kind}
 use Rattle.coer_core.specs.Machine.{LambdaCode, MemberCode, code_arity, closure, Eval, Calling, Tupling, Operating}
 use Rattle.coer_core.specs.Machine.{IfFrame, SeqFrame, FunFrame, ProjDynFrame, GatherFrame, LetFrame, entered, finish}
 use Rattle.coer_core.specs.Machine.{gather, bind_next, choose, eval, back}
+use Rattle.coer_core.specs.Machine.{Job}
 use Rattle.coer_core.proofs.Plugging.{some_chosen, all_onto, AllBound, all_bound, names_onto_of, plain_applies}
 use Rattle.coer_core.proofs.Plugging.{plain_redex}
 use Rattle.coer_core.proofs.Operating.{m_operator}
 use Rattle.coer_core.proofs.Relation.{terms_onto, bindings_onto, names_onto, cast_term, casts_term, IsPlain, sub}
 use Rattle.coer_core.proofs.Relation.{sub_terms, sub_bindings, Is, Spelled, SpelledBindings, Pended, let_term, Plugged}
 use Rattle.coer_core.proofs.Relation.{TermOf, terms_weight, binding_weight, pending_size, frames_size, size_of}
-use Rattle.coer_core.proofs.Unload.{PiledValue, PiledEnv, PiledStore, PiledPending, PiledFrame, PiledAfter, PiledJob}
+use Rattle.coer_core.proofs.Unload.{PiledValue, PiledEnv, PiledStore, PiledPending, PiledFrame, PiledAfter}
 use Rattle.coer_core.proofs.Unload.{group_with, value_of, entries_of, store_of, entries_again, find_entry, in_row_of}
 use Rattle.coer_core.proofs.Joining.{put_in_bound}
 use Rattle.coer_core.proofs.Matching.{Matched, m_gives, Fit, m_cast, m_proj, m_proj_dyn, body_of, group_names}
@@ -76,12 +77,12 @@ module _ (types : TypeRows) (rows : List TypeCast) (store : PiledStore) (world :
   -- ---- gathering values
 
   -- the term of a job
-  abbrev JobTerm : PiledJob → Term → Terms → Term
+  abbrev JobTerm : Job TypeCast → Term → Terms → Term
   JobTerm (Calling f) function terms = Call function terms
   JobTerm Tupling function terms = Tuple terms
   JobTerm (Operating operator) function terms = Prim operator terms
 
-  abbrev Ready : PiledJob → Term → Type 0
+  abbrev Ready : Job TypeCast → Term → Type 0
   Ready (Calling f) function = Is rows function f
   Ready Tupling function = Unit {0}
   Ready (Operating operator) function = Unit {0}
@@ -118,7 +119,7 @@ module _ (types : TypeRows) (rows : List TypeCast) (store : PiledStore) (world :
   same_operator VectorSet values = refl
   same_operator VectorLength values = refl
 
-  finish_moves : (job : PiledJob) (function : Term) (values : List PiledValue) (terms : Terms) (k : List PiledFrame)
+  finish_moves : (job : Job TypeCast) (function : Term) (values : List PiledValue) (terms : Terms) (k : List PiledFrame)
       → Ready job function → all_values terms ≡ Some (map (value_of rows) values) → Pended rows (all_plain values) terms
       → Stepping (Some (job_kind job values)) k (JobTerm job function terms) (finish (piling types rows) store world job
       values k)
@@ -158,7 +159,7 @@ module _ (types : TypeRows) (rows : List TypeCast) (store : PiledStore) (world :
   pend_onto (v ∷ done) acc (TermThen term terms) rest s p =
       pend_onto done (v ∷ acc) terms (TermThen term rest) s.1 ((term, s.0, refl), p)
 
-  plug_gathered : (job : PiledJob) (function : Term) (done : List PiledValue) (terms : Terms) (h : Term)
+  plug_gathered : (job : Job TypeCast) (function : Term) (done : List PiledValue) (terms : Terms) (h : Term)
       (todo : RowTerms) (env : PiledEnv) (k : List PiledFrame) (whole : Term) → Ready job function
       → Spelled rows done terms → Plugged rows k
       (JobTerm job function (terms_onto terms (TermThen h (sub_terms rows todo env)))) whole
@@ -167,7 +168,7 @@ module _ (types : TypeRows) (rows : List TypeCast) (store : PiledStore) (world :
   plug_gathered Tupling function done terms h todo env k whole r s p = (terms, s, p)
   plug_gathered (Operating operator) function done terms h todo env k whole r s p = (terms, s, p)
 
-  pub gather_moves : (n : ℕ) (job : PiledJob) (function : Term) (done : List PiledValue) (terms : Terms)
+  pub gather_moves : (n : ℕ) (job : Job TypeCast) (function : Term) (done : List PiledValue) (terms : Terms)
       (rest : RowTerms) (env : PiledEnv) (k : List PiledFrame) → Ready job function → Spelled rows done terms
       → terms_weight rest + frames_size k ≤ n
       → Moves (gather_kind job done rest) n k (JobTerm job function (terms_onto terms (sub_terms rows rest env)))

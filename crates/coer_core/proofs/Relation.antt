@@ -12,7 +12,8 @@ use Rattle.coer_core.specs.Terms.{RowTermThen, RowBindings, NoRowBindings, RowBi
 use Rattle.coer_core.specs.Terms.{core_bindings}
 use Rattle.coer_core.specs.Machine.{Eval, Calling, Tupling, Operating, IfFrame, SeqFrame, FunFrame, ProjDynFrame}
 use Rattle.coer_core.specs.Machine.{GatherFrame, LetFrame}
-use Rattle.coer_core.proofs.Unload.{PiledValue, PiledEnv, PiledPending, PiledFrame, PiledFocus, value_of, entries_of}
+use Rattle.coer_core.specs.Machine.{CoerFocus}
+use Rattle.coer_core.proofs.Unload.{PiledValue, PiledEnv, PiledPending, PiledFrame, value_of, entries_of}
 
 -- in front of the rest, the terms so far, of which the last comes first
 abbrev pub terms_onto : Terms → Terms → Terms
@@ -119,7 +120,7 @@ module _ (rows : List TypeCast) where
       × ((rest : Terms) × Pended todo rest × Plugged k (Enter function (terms_onto terms (TermThen h rest))) whole))
 
   -- what the focus stands for
-  abbrev pub Hole : PiledFocus → Term → Type 0
+  abbrev pub Hole : CoerFocus TypeCast → Term → Type 0
   Hole (Own (Eval term env)) h = h ≡ sub term env
   Hole (Return v) h = Is h v
   Hole (Entering f done todo) h =
@@ -128,7 +129,7 @@ module _ (rows : List TypeCast) where
       × ((rest : Terms) × Pended todo rest × (h ≡ Enter function (terms_onto terms rest))))
 
   -- the whole that a focus and its frames stand for
-  abbrev pub TermOf : PiledFocus → List PiledFrame → Term → Type 0
+  abbrev pub TermOf : CoerFocus TypeCast → List PiledFrame → Term → Type 0
   TermOf focus k whole = (h : Term) × Hole focus h × Plugged k h whole
 
 -- ---- a measure that falls where the calculus makes no step
@@ -180,10 +181,10 @@ abbrev pub frames_size : List PiledFrame → ℕ
 frames_size [] = 0
 frames_size (frame ∷ k) = frame_size frame + frames_size k
 
-abbrev pub focus_size : PiledFocus → ℕ
+abbrev pub focus_size : CoerFocus TypeCast → ℕ
 focus_size (Own (Eval term env)) = weight term
 focus_size (Return v) = 0
 focus_size (Entering f done todo) = pending_size todo
 
-abbrev pub size_of : PiledFocus → List PiledFrame → ℕ
+abbrev pub size_of : CoerFocus TypeCast → List PiledFrame → ℕ
 size_of focus k = focus_size focus + frames_size k

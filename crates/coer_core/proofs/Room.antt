@@ -37,6 +37,7 @@ use Rattle.coer_core.specs.Machine.{GatherFrame, LetFrame, env_names, env_values
 use Rattle.coer_core.specs.Machine.{members_in, group_env, entered_body, entered_member, entered, finish, gather}
 use Rattle.coer_core.specs.Machine.{bind_next, choose, eval, resume, back, turn}
 use Rattle.coer_core.specs.Counts.{row_member_count, lambda_captures, group_captures}
+use Rattle.coer_core.specs.Holding.{Holding, Holds, AllHold, MembersHold, BindingsHold}
 use Rattle.coer_core.specs.Uses.{how_many}
 
 -- what holds of a thing that may be there
@@ -47,36 +48,26 @@ FitOption P None = Unit {0}
 module _ (n : ℕ) where
   -- ---- terms
 
-  abbrev mutual
-    pub FitsIn : RowTerm → Type 0
-    FitsIn (RowInt i) = Unit {0}
-    FitsIn (RowBool b) = Unit {0}
-    FitsIn RowUnit = Unit {0}
-    FitsIn (RowVar name) = Unit {0}
-    FitsIn (RowLambda parameters body type) = (2 + length (lambda_captures parameters body) ≤ n) × FitsIn body
-    FitsIn (RowGroup members body) =
-        (2 * row_member_count members + length (group_captures members) ≤ n) × FitMembers members × FitsIn body
-    FitsIn (RowLet bindings body) = FitBindings bindings × FitsIn body
-    FitsIn (RowCall function arguments) = FitsIn function × FitAll arguments
-    FitsIn (RowIf condition on_true on_false) = FitsIn condition × FitsIn on_true × FitsIn on_false
-    FitsIn (RowSeq terms) = FitAll terms
-    FitsIn (RowCast term number) = FitsIn term
-    FitsIn (RowProj term k) = FitsIn term
-    FitsIn (RowProjDyn term k label) = FitsIn term
-    FitsIn (RowTuple parts) = (1 + how_many parts ≤ n) × FitAll parts
-    FitsIn (RowPrim operator operands) = FitAll operands
+  -- what takes at most so many words: a function with what it captures, a group, and a tuple
+  abbrev pub fitting : Holding
+  fitting = record {
+    function = λ parameters body inner. (2 + length (lambda_captures parameters body) ≤ n) × inner;
+    group = λ members inner. (2 * row_member_count members + length (group_captures members) ≤ n) × inner;
+    cast = λ number inner. inner;
+    tuple = λ parts inner. (1 + how_many parts ≤ n) × inner;
+  }
 
-    pub FitAll : RowTerms → Type 0
-    FitAll NoRowTerms = Unit {0}
-    FitAll (RowTermThen term rest) = FitsIn term × FitAll rest
+  abbrev pub FitsIn : RowTerm → Type 0
+  FitsIn term = Holds fitting term
 
-    pub FitMembers : RowMembers → Type 0
-    FitMembers NoRowMembers = Unit {0}
-    FitMembers (RowMemberThen name parameters body type rest) = FitsIn body × FitMembers rest
+  abbrev pub FitAll : RowTerms → Type 0
+  FitAll terms = AllHold fitting terms
 
-    pub FitBindings : RowBindings → Type 0
-    FitBindings NoRowBindings = Unit {0}
-    FitBindings (RowBindingThen name bound rest) = FitsIn bound × FitBindings rest
+  abbrev pub FitMembers : RowMembers → Type 0
+  FitMembers members = MembersHold fitting members
+
+  abbrev pub FitBindings : RowBindings → Type 0
+  FitBindings bindings = BindingsHold fitting bindings
 
   abbrev pub FitCode : Code → Type 0
   FitCode (LambdaCode parameters body type names) = FitsIn body
@@ -610,9 +601,9 @@ module _ (n : ℕ) where
           ((f.1, fit_row (env_values env) (fit_env_values env e)), g, fit_store)
       fit_eval (RowGroup members body) env k f e g = (
         (
-          f.2,
+          f.1.1,
           fit_append (members_in members (env_names env) (in_row (env_values env)) members 0) env
-              (fit_members_in members (env_names env) (in_row (env_values env)) members 0 f.1
+              (fit_members_in members (env_names env) (in_row (env_values env)) members 0 f.1.0
               (fit_row (env_values env) (fit_env_values env e))) e,
         ),
         g,

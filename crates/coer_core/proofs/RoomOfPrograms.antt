@@ -324,7 +324,7 @@ module _ (rows : List TypeCast) where
           captured_few (names_besides (row_member_names members) (free_names_of_members members)) (env_names context)
           free in
           let all = names_long context in (
-            (omega (arith, few, all, nodes, le), first.0, second.0),
+            (omega (arith, few, all, nodes, le), (first.0, second.0)),
             under (row_member_names members) bound context (free_names_of_members members ++ free_names body) names
                 (all_joined (free_names_of_members members) (free_names body) (env_names (bound ++ context)) first.1
                 second.1),

@@ -27,10 +27,11 @@ use Rattle.cast_modes.specs.ValueSteps.{CastFrame, ProjFrame, PrimFrame, EnterFr
 use Rattle.coer_core.specs.Terms.{RowMembers, NoRowMembers, RowMemberThen, core_members, core_bindings}
 use Rattle.coer_core.specs.Machine.{LambdaCode, MemberCode, member_width, code_arity, Calling, Tupling, Operating}
 use Rattle.coer_core.specs.Machine.{IfFrame, SeqFrame, FunFrame, ProjDynFrame, GatherFrame, LetFrame}
+use Rattle.coer_core.specs.Machine.{CoerValues}
 use Rattle.coer_core.proofs.Following.{Keeps}
 use Rattle.coer_core.proofs.Relation.{terms_onto, bindings_onto, names_onto, cast_term, sub, sub_terms, sub_bindings}
 use Rattle.coer_core.proofs.Relation.{let_term, Plugged}
-use Rattle.coer_core.proofs.Unload.{PiledValue, PiledValues, PiledFrame, value_of, values_of}
+use Rattle.coer_core.proofs.Unload.{PiledValue, PiledFrame, value_of, values_of}
 
 equal_itself : (n : ℕ) → nat_eq n n ≡ true
 equal_itself n = eq-eqb n n refl
@@ -97,7 +98,7 @@ module _ (types : TypeRows) (labels : ℕ) (cells : List CellType) (rows : List 
 
   -- ---- heads
 
-  tuple_length : (values : PiledValues) (parts : List ℕ)
+  tuple_length : (values : CoerValues TypeCast) (parts : List ℕ)
       → ValuesHaveTypes types labels cells (values_of rows values) parts → length parts ≡ length (row_list values)
   tuple_length NoRunValues parts h = ap length h
   tuple_length (RunValueThen v rest) parts h = ap length h.2 ∙ ap suc (tuple_length rest h.1 h.4)

@@ -16,16 +16,13 @@ use Rattle.cast_modes.specs.RunValues.{RunInt, RunBool, RunUnit, RunFun, RunTupl
 use Rattle.cast_modes.specs.RunValues.{NoRunValues, RunValueThen, in_row, row_list, shown}
 use Rattle.coer_core.specs.Terms.{RowMembers, NoRowMembers, RowMemberThen, core_of, core_members}
 use Rattle.coer_core.specs.Machine.{Code, LambdaCode, MemberCode, CoerValue, CoerValues, CoerStore, CoerPending, Env}
-use Rattle.coer_core.specs.Machine.{CoerFrame, CoerFocus, CoerAfter, Job, RunState, env_names, env_values, paired}
+use Rattle.coer_core.specs.Machine.{CoerFrame, CoerAfter, RunState, env_names, env_values, paired}
 use Rattle.coer_core.specs.Machine.{captured_env, members_in}
 
 -- ---- the run in the piled mode
 
 abbrev pub PiledValue : Type 0
 PiledValue = CoerValue TypeCast
-
-abbrev pub PiledValues : Type 0
-PiledValues = CoerValues TypeCast
 
 abbrev pub PiledEnv : Type 0
 PiledEnv = Env TypeCast
@@ -39,14 +36,8 @@ PiledPending = CoerPending TypeCast
 abbrev pub PiledFrame : Type 0
 PiledFrame = CoerFrame TypeCast
 
-abbrev pub PiledFocus : Type 0
-PiledFocus = CoerFocus TypeCast
-
 abbrev pub PiledAfter : Type 0
 PiledAfter = CoerAfter TypeCast
-
-abbrev pub PiledJob : Type 0
-PiledJob = Job TypeCast
 
 abbrev pub PiledState : Type 0
 PiledState = RunState TypeCast
@@ -80,7 +71,7 @@ module _ (rows : List TypeCast) where
     value_of (RunWrap v cast) = WrapValue (value_of v) cast.from cast.label cast.to
     value_of (RunInject v kept) = InjectValue (value_of v) kept
 
-    pub values_of : PiledValues → Values
+    pub values_of : CoerValues TypeCast → Values
     values_of NoRunValues = NoValues
     values_of (RunValueThen v rest) = ValueThen (value_of v) (values_of rest)
 
@@ -92,7 +83,7 @@ module _ (rows : List TypeCast) where
   abbrev pub store_of : PiledStore → Store
   store_of store = map (map value_of) store
 
-  pub captured_entries : (names : List ℕ) (captured : PiledValues)
+  pub captured_entries : (names : List ℕ) (captured : CoerValues TypeCast)
       → paired names (value_list (values_of captured)) ≡ entries_of (captured_env names captured)
   captured_entries [] captured = refl
   captured_entries (name ∷ names) NoRunValues = refl
@@ -119,7 +110,7 @@ module _ (rows : List TypeCast) where
   entries_append [] env = refl
   entries_append (entry ∷ rest) env = ap (λ l. (entry.0, value_of entry.1) ∷ l) (entries_append rest env)
 
-  pub members_entries : (group : RowMembers) (names : List ℕ) (captured : PiledValues) (s : Substitution)
+  pub members_entries : (group : RowMembers) (names : List ℕ) (captured : CoerValues TypeCast) (s : Substitution)
       (members : RowMembers) (place : ℕ) → entries_of (members_in group names captured members place)
       ≡ members_from (group_with group (paired names (value_list (values_of captured))))
       (substitute_members (core_members rows members) s) place
@@ -151,7 +142,7 @@ module _ (rows : List TypeCast) where
   bound_both (name ∷ names) (v ∷ rest) =
       bound_both_on name names v (bind names rest) (bind names (map value_of rest)) (bound_both names rest)
 
-  shown_function : (code : Code) (captured : PiledValues) (values : List Value)
+  shown_function : (code : Code) (captured : CoerValues TypeCast) (values : List Value)
       → shown_value (function_with code values) ≡ shown (let f : PiledValue = RunFun code captured in f)
   shown_function (LambdaCode parameters body type names) captured values = refl
   shown_function (MemberCode group place names) captured values = refl
@@ -170,7 +161,7 @@ module _ (rows : List TypeCast) where
   in_row_of [] = refl
   in_row_of (v ∷ rest) = ap (ValueThen (value_of v)) (in_row_of rest)
 
-  pub row_list_of : (values : PiledValues) → value_list (values_of values) ≡ map value_of (row_list values)
+  pub row_list_of : (values : CoerValues TypeCast) → value_list (values_of values) ≡ map value_of (row_list values)
   row_list_of NoRunValues = refl
   row_list_of (RunValueThen v rest) = ap (λ l. value_of v ∷ l) (row_list_of rest)
 

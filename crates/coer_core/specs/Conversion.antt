@@ -11,42 +11,22 @@ use Rattle.coer_core.specs.Terms.{RowTerm, RowTerms, RowMembers, RowBindings, Ro
 use Rattle.coer_core.specs.Terms.{RowLambda, RowGroup, RowLet, RowCall, RowIf, RowSeq, RowCast, RowProj, RowProjDyn}
 use Rattle.coer_core.specs.Terms.{RowTuple, RowPrim, NoRowTerms, RowTermThen, NoRowMembers, RowMemberThen}
 use Rattle.coer_core.specs.Terms.{NoRowBindings, RowBindingThen}
+use Rattle.coer_core.specs.Gathered.{Gathers, gathered}
 
 -- ---- casts in order of first use
 
 -- the casts of a term, each as often as it stands there: that of an inner term before that of an outer one, and of
 -- parts from left to right
-abbrev mutual
-  pub casts_in : Term → List TypeCast
-  casts_in (IntLit n) = []
-  casts_in (BoolLit b) = []
-  casts_in UnitLit = []
-  casts_in (Var name) = []
-  casts_in (Lambda parameters body type) = casts_in body
-  casts_in (Group members body) = casts_in_members members ++ casts_in body
-  casts_in (Let bindings body) = casts_in_bindings bindings ++ casts_in body
-  casts_in (Call function arguments) = casts_in function ++ casts_in_all arguments
-  casts_in (Enter function arguments) = []
-  casts_in (If condition on_true on_false) = casts_in condition ++ (casts_in on_true ++ casts_in on_false)
-  casts_in (Seq terms) = casts_in_all terms
-  casts_in (CastTerm term from to label) = casts_in term ++ type_cast from label to ∷ []
-  casts_in (Proj term k) = casts_in term
-  casts_in (ProjDyn term k label) = casts_in term
-  casts_in (Tuple parts) = casts_in_all parts
-  casts_in (Prim operator operands) = casts_in_all operands
-  casts_in (ValueTerm v) = []
+abbrev pub all_casts : Gathers TypeCast
+all_casts = record {
+  cast = λ from to label inner. inner ++ type_cast from label to ∷ [];
+  part = λ k label inner. inner;
+  operation = λ operator inner. inner;
+  entered = λ inner. [];
+}
 
-  pub casts_in_all : Terms → List TypeCast
-  casts_in_all NoTerms = []
-  casts_in_all (TermThen term rest) = casts_in term ++ casts_in_all rest
-
-  pub casts_in_members : Members → List TypeCast
-  casts_in_members NoMembers = []
-  casts_in_members (MemberThen name parameters body type rest) = casts_in body ++ casts_in_members rest
-
-  pub casts_in_bindings : Bindings → List TypeCast
-  casts_in_bindings NoBindings = []
-  casts_in_bindings (BindingThen name bound rest) = casts_in bound ++ casts_in_bindings rest
+abbrev pub casts_in : Term → List TypeCast
+casts_in term = gathered all_casts term
 
 -- whether two casts are the same
 abbrev pub same_cast : TypeCast → TypeCast → Bool

@@ -1,11 +1,10 @@
 -- The account of a run in the merged mode: a cast composes coercions, so it asks for more at a time, and less often.
 -- Other turns are as in any mode, but that a part of what is in Dyn asks for 13 words, and a new box for its two.
-use Rattle.std.specs.Prelude.{ℕ, ◌+◌, ◌*◌, ◌^◌, ◌≤◌, List, ◌∷◌, length, Option, Some, None}
+use Rattle.std.specs.Prelude.{ℕ, ◌+◌, ◌*◌, ◌^◌, ◌≤◌, List, ◌∷◌, Option, Some, None}
 use Rattle.run_laws.specs.Runs.{Run}
 use Rattle.run_laws.specs.Reductions.{Reduction, reduction_run}
 use Rattle.grift_base.specs.Types.{TypeRows, row_at}
 use Rattle.grift_base.specs.declared.verdicts.Verdict.{Verdict}
-use Rattle.core_calc.specs.Redex.{where_some}
 use Rattle.core_calc.specs.Account.{Measures, StepKind, Wraps, Casts, cast_kind, Account}
 use Rattle.coercion_norm.specs.Coercions.{Coercion, Project}
 use Rattle.cast_modes.specs.Modes.{Shape, Injected, Decision, Wrapping, Rewrapping, Unwrapping, Injecting, Opening}
@@ -16,7 +15,7 @@ use Rattle.cast_modes.specs.AnswerTypes.{Told}
 use Rattle.coer_core.specs.Terms.{RowTerm}
 use Rattle.coer_core.specs.Machine.{code_arity, CoerFocus, CoerFrame, ProjDynFrame, RunState, running, run_start}
 use Rattle.coer_core.specs.Tally.{turn_kind, kind_asks, kind_budget, kind_acts, kind_elements, kind_products}
-use Rattle.coer_core.specs.Tally.{function_words, made_words, Tally, reach, Tallied, untallied}
+use Rattle.coer_core.specs.Tally.{function_words, made_words, Tally, reach, Tallied, tally_with, untallied}
 
 -- what a cast does in this mode, or a part of what is in Dyn
 pub data Effort : Type 0 where
@@ -108,16 +107,7 @@ module _ (types : TypeRows) (mode : Mode Coercion) (m : Measures) where
       by_effort (effort_at focus k) (effort_budget m) (kind_budget m (turn_kind mode focus k) (function_words focus))
 
   abbrev pub merged_tally_of : Tallied Coercion → Tally
-  merged_tally_of s = record {
-    acts = s.acts;
-    words = s.words;
-    asks = where_some s.state.ended 0 (merged_asks s.state.focus s.state.frames);
-    frames = length s.state.frames;
-    wraps = s.wraps;
-    elements = s.elements;
-    products = s.products;
-    paid = s.paid;
-  }
+  merged_tally_of s = tally_with (merged_asks s.state.focus s.state.frames) s
 
   abbrev pub next_merged : Tallied Coercion → RunState Coercion → Tallied Coercion
   next_merged s next = record {

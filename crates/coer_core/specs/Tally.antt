@@ -181,6 +181,19 @@ abbrev pub untallied : {C : Type 0} → RunState C → Tallied C
 untallied state =
     record { acts = 0; words = 0; wraps = 0; elements = 0; products = 0; paid = 0; state = state }
 
+-- what a state's account shows, where the next turn may ask for so many words
+abbrev pub tally_with : {C : Type 0} → ℕ → Tallied C → Tally
+tally_with asks s = record {
+  acts = s.acts;
+  words = s.words;
+  asks = where_some s.state.ended 0 asks;
+  frames = length s.state.frames;
+  wraps = s.wraps;
+  elements = s.elements;
+  products = s.products;
+  paid = s.paid;
+}
+
 module _ {C : Type 0} (mode : Mode C) (m : Measures) where
   abbrev pub asks_of_turn : RunState C → ℕ
   asks_of_turn state = kind_asks m (kind_of_turn mode state) (made_words state.focus state.frames)
@@ -189,16 +202,7 @@ module _ {C : Type 0} (mode : Mode C) (m : Measures) where
   budget_of_turn state = kind_budget m (kind_of_turn mode state) (function_words state.focus)
 
   abbrev pub tally_of : Tallied C → Tally
-  tally_of s = record {
-    acts = s.acts;
-    words = s.words;
-    asks = where_some s.state.ended 0 (asks_of_turn s.state);
-    frames = length s.state.frames;
-    wraps = s.wraps;
-    elements = s.elements;
-    products = s.products;
-    paid = s.paid;
-  }
+  tally_of s = tally_with (asks_of_turn s.state) s
 
   abbrev pub next_tally : Tallied C → RunState C → Tallied C
   next_tally s next = record {

@@ -3,11 +3,11 @@ use Rattle.std.specs.Prelude.{ℕ, zero, suc, ◌+◌, ◌≤◌, max, List, [],
 use Rattle.grift_base.specs.Types.{TypeRows}
 use Rattle.core_calc.specs.Account.{Measures}
 use Rattle.coercion_norm.specs.Coercions.{Coercion}
-use Rattle.cast_modes.specs.Modes.{Decision, Keeping, Wrapping, Rewrapping, Unwrapping, Injecting, Opening, Making}
-use Rattle.cast_modes.specs.Modes.{Mode}
-use Rattle.cast_modes.specs.RunValues.{RunWrap, RunInject, shape_of}
+use Rattle.cast_modes.specs.Modes.{Decision, Mode}
+use Rattle.cast_modes.specs.RunValues.{shape_of}
 use Rattle.cast_modes.specs.ValueSteps.{CastFrame, Return}
 use Rattle.coer_core.specs.Machine.{code_arity, CoerValue, CoerFocus, CoerFrame}
+use Rattle.coer_core.specs.Results.{decided}
 use Rattle.coer_core.specs.Tally.{turn_kind, kind_asks, kind_budget, kind_acts, function_words, made_words}
 use Rattle.coer_core.specs.MergedTally.{merged_asks, merged_acts, merged_budget}
 
@@ -62,14 +62,7 @@ merged_price types mode m = record {
 
 -- what is left to do after a decision, by what is known of that
 abbrev pub toll_on : {C : Type 0} → (CoerValue C → List C → Toll) → Decision C → CoerValue C → List C → Toll
-toll_on go Keeping v casts = go v casts
-toll_on go (Wrapping cast) v casts = go (RunWrap v cast) casts
-toll_on go (Rewrapping cast) (RunWrap x old) casts = go (RunWrap x cast) casts
-toll_on go Unwrapping (RunWrap x old) casts = go x casts
-toll_on go (Injecting kept) v casts = go (RunInject v kept) casts
-toll_on go (Opening cast) (RunInject x kept) casts = go x (cast ∷ casts)
-toll_on go (Making cast next) v casts = go v (cast ∷ next ∷ casts)
-toll_on go _ v casts = no_toll
+toll_on go decision v casts = decided go (λ label. no_toll) no_toll decision v casts
 
 -- of a cast behind which these wait, over so many frames
 abbrev pub cast_toll : {C : Type 0} → Price C → ℕ → CoerValue C → C → List C → Toll

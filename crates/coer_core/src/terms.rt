@@ -6,7 +6,9 @@ ghost use Rattle.coer_core.specs.TermLists.{bindings_onto, members_onto, terms_o
 ghost use Rattle.coer_core.specs.Views.{bindings_with, members_with, row_bindings_of, row_members_of, row_term_of};
 ghost use Rattle.coer_core.specs.Views.{row_terms_of};
 
+use core_calc::drop_parts;
 use core_calc::terms::{VarId, VarIds};
+use grift_base::drop_along;
 use grift_base::lists::OutOfMemory;
 use grift_base::operators::PrimOp;
 use grift_base::places::{LabelId, TypeId};
@@ -51,51 +53,8 @@ pub enum CoerTerm {
 impl Drop for CoerTerm {
     #[cycle(coer)]
     fn drop(self) {
-        match self {
-            CoerTerm::Int(_) => {}
-            CoerTerm::Bool(_) => {}
-            CoerTerm::Unit => {}
-            CoerTerm::Var(_) => {}
-            CoerTerm::Lambda(a, b, _) => {
-                drop(a);
-                drop(b);
-            }
-            CoerTerm::Group(a, b) => {
-                drop(a);
-                drop(b);
-            }
-            CoerTerm::Let(a, b) => {
-                drop(a);
-                drop(b);
-            }
-            CoerTerm::Call(a, b) => {
-                drop(a);
-                drop(b);
-            }
-            CoerTerm::If(a, b, c) => {
-                drop(a);
-                drop(b);
-                drop(c);
-            }
-            CoerTerm::Seq(a) => {
-                drop(a);
-            }
-            CoerTerm::Coerce(a, _) => {
-                drop(a);
-            }
-            CoerTerm::Proj(a, _) => {
-                drop(a);
-            }
-            CoerTerm::ProjDyn(a, _, _) => {
-                drop(a);
-            }
-            CoerTerm::Tuple(a) => {
-                drop(a);
-            }
-            CoerTerm::Prim(_, b) => {
-                drop(b);
-            }
-        }
+        drop_parts!(self, CoerTerm; Unit; Int(_), Bool(_), Var(_), Lambda(a, b, _), Group(a, b), Let(a, b),
+            Call(a, b), If(a, b, c), Seq(a), Coerce(a, _), Proj(a, _), ProjDyn(a, _, _), Tuple(a), Prim(_, b))
     }
 }
 
@@ -171,36 +130,21 @@ pub enum CoerBindings {
 impl Drop for CoerList {
     #[cycle(coer)]
     fn drop(mut self) {
-        loop {
-            match self {
-                CoerList::Nil => return,
-                CoerList::Cons(_, rest) => self = Box::into_inner(rest),
-            }
-        }
+        drop_along!(self, CoerList)
     }
 }
 
 impl Drop for CoerMembers {
     #[cycle(coer)]
     fn drop(mut self) {
-        loop {
-            match self {
-                CoerMembers::Nil => return,
-                CoerMembers::Cons(_, rest) => self = Box::into_inner(rest),
-            }
-        }
+        drop_along!(self, CoerMembers)
     }
 }
 
 impl Drop for CoerBindings {
     #[cycle(coer)]
     fn drop(mut self) {
-        loop {
-            match self {
-                CoerBindings::Nil => return,
-                CoerBindings::Cons(_, rest) => self = Box::into_inner(rest),
-            }
-        }
+        drop_along!(self, CoerBindings)
     }
 }
 

@@ -127,6 +127,12 @@ module _ (types : TypeRows) (rows : IsOrderedTable types) (old : NodeTable) (ord
         sym (inject_then_inject types rows (tree_of old.nodes c) (tree_of old.nodes d) (tree_of old.nodes g) kept
         inject_tree (tree_of old.nodes h) other (tree_is old.nodes d (InjectNode h other) ordered.before e))
 
+    -- a composition is measured less than that of this injection with what stands behind it
+    abbrev pub Falls : ℕ → List Node → ℕ → ℕ → Type 0
+    Falls d now first second =
+        137438953472 * pair_high types now first second + 17179869184 * rank (tree_of now first) + 8589934592
+        < 137438953472 * pair_high types old.nodes c d + 17179869184 + 1
+
     -- ---- a projection behind it: the cast of the kept type to the wanted one goes between
 
     module _ (d i wanted label : ℕ) (d_is : slice_get old.nodes d ≡ Some (ProjectNode wanted label i))
@@ -153,9 +159,7 @@ module _ (types : TypeRows) (rows : IsOrderedTable types) (old : NodeTable) (ord
           ∙ rank_inner (coerce_solid (rows_of types) (cast_of types) kept wanted label)
           (solid_is_inner (rows_of types) (cast_of types) kept wanted label)
 
-      pub between_falls : 137438953472 * pair_high types one between i + 17179869184 * rank (tree_of one between)
-          + 8589934592
-          < 137438953472 * pair_high types old.nodes c d + 17179869184 + 1
+      pub between_falls : Falls d one between i
       between_falls =
           let hc = inject_high in
           let hd = project_high d i wanted label d_is in
@@ -175,9 +179,7 @@ module _ (types : TypeRows) (rows : IsOrderedTable types) (old : NodeTable) (ord
             let b = more_places old.nodes two later in
             omega (arith, a, b)
 
-        pub before_falls : 137438953472 * pair_high types two g rest + 17179869184 * rank (tree_of two g)
-            + 8589934592
-            < 137438953472 * pair_high types old.nodes c d + 17179869184 + 1
+        pub before_falls : Falls d two g rest
         before_falls =
             let hc = inject_high in
             let hd = project_high d i wanted label d_is in

@@ -2,8 +2,8 @@
 use Rattle.std.proofs.Common.{◌≡◌, ℕ, zero, suc, ◌≤◌, nat_eq, Bool, true, false, cond, Option, Some, None, refl, sym}
 use Rattle.std.proofs.Common.{ap, ◌∙◌, subst, inl, inr, arith}
 use Rattle.std.proofs.lemmas.Bool.{eqb-true, eq-eqb}
-use Rattle.grift_base.specs.Types.{TypeRow, TypeHead, IntHead, BoolHead, UnitHead, DynHead, FunHead, TupleHead, RefHead}
-use Rattle.grift_base.specs.Types.{VectHead, equal_heads, is_dyn, same_head, head_of}
+use Rattle.grift_base.specs.Types.{TypeRow, TypeHead, FunHead, TupleHead}
+use Rattle.grift_base.specs.Types.{equal_heads, is_dyn, same_head, head_of}
 use Rattle.coercion_norm.specs.Coercions.{Kind, Coercion, Coercions, Id, Fail, Project, NoCoercions, CoercionThen}
 use Rattle.coercion_norm.specs.Coercions.{all_id, runs_back, kind_of, slot, slots}
 use Rattle.coercion_norm.specs.Paths.{Steps, Stop, Edge, last_type, joined, in_front, solid, first_clash}

@@ -1,5 +1,5 @@
 -- The object of a coercion, by its node: it is whole, and holds the coercion.
-use Rattle.std.proofs.Common.{◌≡◌, ℕ, suc, ◌+◌, ◌*◌, ◌<◌, ◌≤◌, ◌^◌, true, cond, refl, sym, ap}
+use Rattle.std.proofs.Common.{◌≡◌, ℕ, suc, ◌+◌, ◌*◌, ◌<◌, ◌≤◌, ◌^◌, true, false, cond, refl, sym, ap}
 use Rattle.std.proofs.Common.{◌∙◌, subst, arith, List, [], ◌∷◌, ◌++◌, length, Some, All, append-nil, slice_get}
 use Rattle.std.specs.Prelude.{slice_index, ◌==◌}
 use Rattle.std.proofs.lemmas.List.{length-map}
@@ -9,9 +9,11 @@ use Rattle.object_layout.specs.declared.kinds.Kind.TheVariants.{Fail as FailObje
 use Rattle.object_layout.specs.declared.kinds.Kind.TheVariants.{Project as ProjectObject}
 use Rattle.object_layout.specs.declared.wholes.Area.TheVariants.{Statics as InStatics}
 use Rattle.object_layout.specs.Kinds.{allows_count, wanted_words}
+use Rattle.object_layout.specs.Headers.{packed}
+use Rattle.object_layout.specs.declared.kinds.Kind.{Kind as ObjectKind}
 use Rattle.object_layout.specs.Wholes.{Telling, AreWanted, HasHeight, IsWhole, header_at, height_behind}
 use Rattle.object_layout.specs.Wholes.{coercion_height as height_told, highest as highest_of}
-use Rattle.coercion_norm.specs.Coercions.{Kind, FunKind, TupKind, RefKind, VecKind, Id, Fail}
+use Rattle.coercion_norm.specs.Coercions.{Kind, FunKind, TupKind, RefKind, VecKind, Coercion, Id, Fail}
 use Rattle.coercion_norm.specs.Coercions.{Middle}
 use Rattle.coercion_norm.specs.Coercions.{Inject, Project, is_id, rows_of}
 use Rattle.coercion_norm.specs.CoercionTables.{FitsTypes, NodeTable}
@@ -79,36 +81,65 @@ module _ (types : TypeRows) (table : NodeTable) (ordered : AreOrdered table.node
   abbrev IsObjectHere : List ℕ → Type 0
   IsObjectHere = IsObject types table.nodes start j words type_at coercion_at old
 
+  -- an object of a kind that may have so many words is whole, where its words and its height are as they have to be
+  whole_by : (memory : Telling) (kind : ObjectKind) (tall count : ℕ) → allows_count kind count ≡ true
+      → header_at memory at ≡ Some (header kind tall count) → AreWanted memory at (at + 8) (wanted_words kind count)
+      → HasHeight kind tall (highest_of memory (at + 8) (wanted_words kind count))
+      → IsWhole memory InStatics (at + (8 + 8 * count)) at (header kind tall count)
+  whole_by memory kind tall count allowed h words height = record {
+    header = h;
+    kind = kind;
+    kind_is = number_of_kind kind;
+    count = allowed;
+    fits = omega arith;
+    words = words;
+    height = height;
+    stands = tt;
+  }
+
+  -- what is known of the object of a node, by the coercion that the node is
+  object_of : (node : Node) (c : Coercion) → tree_of table.nodes j ≡ c → is_id c ≡ false → (kind : ObjectKind)
+      (count : ℕ) (rest : List ℕ)
+      → node_object type_at coercion_at (coercion_height (height types) c) node
+      ≡ packed (header kind (coercion_height (height types) c) count) ∷ rest
+      → length rest ≡ count → count ≤ 8
+      → coercion_headers types c ≡ header kind (coercion_height (height types) c) count ∷ []
+      → (at ≡ 0 → coercion_height (height types) c ≡ 0)
+      → ((memory : Telling) → Tells memory start words
+      → header_at memory at ≡ Some (header kind (coercion_height (height types) c) count)
+      → Tells memory (at + 8) rest → HoldsCoercion memory types c at)
+      → ((memory : Telling) → Tells memory start words
+      → header_at memory at ≡ Some (header kind (coercion_height (height types) c) count)
+      → Tells memory (at + 8) rest
+      → IsWhole memory InStatics (at + (8 + 8 * count)) at (header kind (coercion_height (height types) c) count))
+      → IsObjectHere (node_object type_at coercion_at high node)
+  object_of node c tree other kind count rest object_is long few headers at_zero held whole =
+      let high_is : high ≡ coercion_height (height types) c = ap (coercion_height (height types)) tree in
+      record {
+        kind = kind;
+        high = coercion_height (height types) c;
+        count = count;
+        rest = rest;
+        object_is = ap (λ n. node_object type_at coercion_at n node) high_is ∙ object_is;
+        long = long;
+        few = few;
+        low = let l = high_low in omega (arith, l, high_is);
+        headers = ap (coercion_headers types) tree ∙ headers;
+        no_id = ap is_id tree ∙ other;
+        at_zero = λ z. high_is ∙ at_zero z;
+        held = λ memory t h w. subst (λ x. HoldsCoercion memory types x at) (sym tree) (held memory t h w);
+        whole = whole;
+      }
+
   -- ---- a fail
 
   fail_object : (label : ℕ) → slice_get table.nodes j ≡ Some (FailNode label)
       → IsObjectHere (node_object type_at coercion_at high (FailNode label))
   fail_object label e =
-      let tree : tree_of table.nodes j ≡ Fail label = tree_is table.nodes j (FailNode label) ordered.before e in
-      record {
-        kind = FailObject;
-        high = 0;
-        count = 1;
-        rest = label ∷ [];
-        object_is = refl;
-        long = refl;
-        few = omega arith;
-        low = omega arith;
-        headers = ap (coercion_headers types) tree;
-        no_id = ap is_id tree;
-        at_zero = λ z. ap (coercion_height (height types)) tree;
-        held = λ memory t h w. subst (λ x. HoldsCoercion memory types x at) (sym tree) (h, w.0);
-        whole = λ memory t h w. record {
-          header = h;
-          kind = FailObject;
-          kind_is = refl;
-          count = refl;
-          fits = omega arith;
-          words = tt;
-          height = refl;
-          stands = tt;
-        };
-      }
+      object_of (FailNode label) (Fail label) (tree_is table.nodes j (FailNode label) ordered.before e) refl
+      FailObject 1
+      (label ∷ []) refl refl (omega arith) refl (λ z. refl) (λ memory t h w. (h, w.0))
+      (λ memory t h w. whole_by memory FailObject 0 1 refl h tt refl)
 
   -- ---- an injection
 
@@ -125,9 +156,6 @@ module _ (types : TypeRows) (table : NodeTable) (ordered : AreOrdered table.node
     abbrev inject_high : ℕ
     inject_high = coercion_height (height types) (Inject (tree_of table.nodes g) kept)
 
-    high_is : high ≡ inject_high
-    high_is = ap (coercion_height (height types)) inject_tree
-
     inject_whole : (memory : Telling) → Tells memory start words
         → header_at memory at ≡ Some (header InjectObject inject_high 2)
         → Tells memory (at + 8) (slice_index coercion_at g ∷ slice_index type_at kept ∷ [])
@@ -140,53 +168,34 @@ module _ (types : TypeRows) (table : NodeTable) (ordered : AreOrdered table.node
         ∙ coercion_as_high memory types (slice_index coercion_at g) (tree_of table.nodes g) part.holds part.low in
         let b : height_behind memory (memory (at + 8 + 8)) ≡ height types kept =
         ap (height_behind memory) w.1.0 ∙ type_as_high memory types (slice_index type_at kept) kept holds in
-        record {
-          header = h;
-          kind = InjectObject;
-          kind_is = refl;
-          count = refl;
-          fits = omega arith;
-          words = (
+        whole_by memory InjectObject inject_high 2 refl h (
+          (
+            slice_index coercion_at g,
+            w.0,
+            coercion_address memory types at (slice_index coercion_at g) (tree_of table.nodes g) part.holds
+                part.below,
+          ),
+          (
             (
-              slice_index coercion_at g,
-              w.0,
-              coercion_address memory types at (slice_index coercion_at g) (tree_of table.nodes g) part.holds
-                  part.below,
+              slice_index type_at kept,
+              w.1.0,
+              type_address memory types at (slice_index type_at kept) kept holds (old.types_below kept kept_there),
             ),
-            (
-              (
-                slice_index type_at kept,
-                w.1.0,
-                type_address memory types at (slice_index type_at kept) kept holds (old.types_below kept kept_there),
-              ),
-              tt,
-            ),
-          );
-          height = omega (arith, a, b);
-          stands = tt;
-        }
+            tt,
+          ),
+        )
+        (omega (arith, a, b))
 
     inject_object : IsObjectHere (node_object type_at coercion_at high (InjectNode g kept))
-    inject_object = record {
-      kind = InjectObject;
-      high = inject_high;
-      count = 2;
-      rest = slice_index coercion_at g ∷ slice_index type_at kept ∷ [];
-      object_is = ap (λ n. node_object type_at coercion_at n (InjectNode g kept)) high_is;
-      long = refl;
-      few = omega arith;
-      low = let l = high_low in let f = high_is in omega (arith, l, f);
-      headers = ap (coercion_headers types) inject_tree;
-      no_id = ap is_id inject_tree;
-      at_zero = λ z. let b = old.types_below kept kept_there in absurd (omega (arith, z, b));
-      held = λ memory t h w.
-          subst (λ x. HoldsCoercion memory types x at) (sym inject_tree) (
-            h,
-            (slice_index coercion_at g, w.0, (part_is memory t g before_it).holds),
-            (slice_index type_at kept, w.1.0, old.each_type memory t kept kept_there),
-          );
-      whole = inject_whole;
-    }
+    inject_object =
+        object_of (InjectNode g kept) (Inject (tree_of table.nodes g) kept) inject_tree refl InjectObject 2
+        (slice_index coercion_at g ∷ slice_index type_at kept ∷ []) refl refl (omega arith) refl
+        (λ z. let b = old.types_below kept kept_there in absurd (omega (arith, z, b)))
+        (λ memory t h w. (
+          h,
+          (slice_index coercion_at g, w.0, (part_is memory t g before_it).holds),
+          (slice_index type_at kept, w.1.0, old.each_type memory t kept kept_there),
+        )) inject_whole
 
   -- ---- a projection
 
@@ -203,9 +212,6 @@ module _ (types : TypeRows) (table : NodeTable) (ordered : AreOrdered table.node
     abbrev project_high : ℕ
     project_high = coercion_height (height types) (Project wanted label (tree_of table.nodes i))
 
-    project_high_is : high ≡ project_high
-    project_high_is = ap (coercion_height (height types)) project_tree
-
     project_whole : (memory : Telling) → Tells memory start words
         → header_at memory at ≡ Some (header ProjectObject project_high 3)
         → Tells memory (at + 8) (slice_index type_at wanted ∷ label ∷ slice_index coercion_at i ∷ [])
@@ -219,58 +225,39 @@ module _ (types : TypeRows) (table : NodeTable) (ordered : AreOrdered table.node
         ≡ coercion_height (height types) (tree_of table.nodes i) =
         ap (height_told memory) w.1.1.0
         ∙ coercion_as_high memory types (slice_index coercion_at i) (tree_of table.nodes i) part.holds part.low in
-        record {
-          header = h;
-          kind = ProjectObject;
-          kind_is = refl;
-          count = refl;
-          fits = omega arith;
-          words = (
+        whole_by memory ProjectObject project_high 3 refl h (
+          (
+            slice_index type_at wanted,
+            w.0,
+            type_address memory types at (slice_index type_at wanted) wanted holds
+                (old.types_below wanted wanted_there),
+          ),
+          (
+            (label, w.1.0, tt),
             (
-              slice_index type_at wanted,
-              w.0,
-              type_address memory types at (slice_index type_at wanted) wanted holds
-                  (old.types_below wanted wanted_there),
-            ),
-            (
-              (label, w.1.0, tt),
               (
-                (
-                  slice_index coercion_at i,
-                  w.1.1.0,
-                  coercion_address memory types at (slice_index coercion_at i) (tree_of table.nodes i) part.holds
-                      part.below,
-                ),
-                tt,
+                slice_index coercion_at i,
+                w.1.1.0,
+                coercion_address memory types at (slice_index coercion_at i) (tree_of table.nodes i) part.holds
+                    part.below,
               ),
+              tt,
             ),
-          );
-          height = omega (arith, a, b);
-          stands = tt;
-        }
+          ),
+        )
+        (omega (arith, a, b))
 
     project_object : IsObjectHere (node_object type_at coercion_at high (ProjectNode wanted label i))
-    project_object = record {
-      kind = ProjectObject;
-      high = project_high;
-      count = 3;
-      rest = slice_index type_at wanted ∷ label ∷ slice_index coercion_at i ∷ [];
-      object_is = ap (λ n. node_object type_at coercion_at n (ProjectNode wanted label i)) project_high_is;
-      long = refl;
-      few = omega arith;
-      low = let l = high_low in let f = project_high_is in omega (arith, l, f);
-      headers = ap (coercion_headers types) project_tree;
-      no_id = ap is_id project_tree;
-      at_zero = λ z. let b = old.types_below wanted wanted_there in absurd (omega (arith, z, b));
-      held = λ memory t h w.
-          subst (λ x. HoldsCoercion memory types x at) (sym project_tree) (
-            h,
-            (slice_index type_at wanted, w.0, old.each_type memory t wanted wanted_there),
-            w.1.0,
-            (slice_index coercion_at i, w.1.1.0, (part_is memory t i behind_it).holds),
-          );
-      whole = project_whole;
-    }
+    project_object =
+        object_of (ProjectNode wanted label i) (Project wanted label (tree_of table.nodes i)) project_tree refl
+        ProjectObject 3 (slice_index type_at wanted ∷ label ∷ slice_index coercion_at i ∷ []) refl refl
+        (omega arith) refl (λ z. let b = old.types_below wanted wanted_there in absurd (omega (arith, z, b)))
+        (λ memory t h w. (
+          h,
+          (slice_index type_at wanted, w.0, old.each_type memory t wanted wanted_there),
+          w.1.0,
+          (slice_index coercion_at i, w.1.1.0, (part_is memory t i behind_it).holds),
+        )) project_whole
 
   -- ---- a middle
 
@@ -290,9 +277,6 @@ module _ (types : TypeRows) (table : NodeTable) (ordered : AreOrdered table.node
     abbrev whole_high : ℕ
     whole_high = coercion_height (height types) (Middle kind (trees (tree_of table.nodes) parts))
 
-    whole_high_is : high ≡ whole_high
-    whole_high_is = ap (coercion_height (height types)) middle_tree
-
     parts_are : (memory : Telling) → Tells memory start words
         → All (IsPart memory types table.nodes coercion_at at) parts
     parts_are memory t = λ k d l. part_is memory t _ (parts_before k d l)
@@ -302,43 +286,27 @@ module _ (types : TypeRows) (table : NodeTable) (ordered : AreOrdered table.node
         → Tells memory (at + 8) (words_at coercion_at parts)
         → IsWhole memory InStatics (at + (8 + 8 * length parts)) at (header (middle_kind kind) whole_high (length
         parts))
-    middle_whole memory t h w = record {
-      header = h;
-      kind = middle_kind kind;
-      kind_is = number_of_kind (middle_kind kind);
-      count = middle_count kind (length parts) wide;
-      fits = omega arith;
-      words = subst (AreWanted memory at (at + 8)) (sym (middle_wanted kind (length parts)))
-          (parts_wanted memory types table.nodes coercion_at at (at + 8) parts w (parts_are memory t));
-      height = middle_high kind whole_high (highest_of memory (at + 8) (wanted_words (middle_kind kind) (length parts)))
-          (ap suc (sym (ap (highest_of memory (at + 8)) (middle_wanted kind (length parts))
-          ∙ parts_as_high memory types table.nodes coercion_at at (at + 8) parts w (parts_are memory t))));
-      stands = tt;
-    }
+    middle_whole memory t h w =
+        whole_by memory (middle_kind kind) whole_high (length parts) (middle_count kind (length parts) wide) h
+        (subst (AreWanted memory at (at + 8)) (sym (middle_wanted kind (length parts)))
+        (parts_wanted memory types table.nodes coercion_at at (at + 8) parts w (parts_are memory t)))
+        (middle_high kind whole_high (highest_of memory (at + 8) (wanted_words (middle_kind kind) (length parts)))
+        (ap suc (sym (ap (highest_of memory (at + 8)) (middle_wanted kind (length parts))
+        ∙ parts_as_high memory types table.nodes coercion_at at (at + 8) parts w (parts_are memory t)))))
 
     middle_object : IsObjectHere (node_object type_at coercion_at high (MiddleNode kind parts))
-    middle_object = record {
-      kind = middle_kind kind;
-      high = whole_high;
-      count = length parts;
-      rest = words_at coercion_at parts;
-      object_is = ap (λ n. node_object type_at coercion_at n (MiddleNode kind parts)) whole_high_is;
-      long = length-map parts (λ place. slice_index coercion_at place);
-      few = few_wide kind (length parts) wide;
-      low = let l = high_low in let f = whole_high_is in omega (arith, l, f);
-      headers = ap (coercion_headers types) middle_tree
-          ∙ ap (λ n. header (middle_kind kind) whole_high n ∷ []) (count_of_trees (tree_of table.nodes) parts);
-      no_id = ap is_id middle_tree;
-      at_zero = λ z.
-          absurd (not_at_zero table.nodes coercion_at at parts (λ k d l. old.below _ (parts_before k d l)) normal.0 z);
-      held = λ memory t h w.
-          subst (λ x. HoldsCoercion memory types x at) (sym middle_tree) (
-            h ∙ ap (λ n. Some (header (middle_kind kind) whole_high n))
-                (sym (count_of_trees (tree_of table.nodes) parts)),
-            parts_stand memory types table.nodes coercion_at at (at + 8) parts w (parts_are memory t),
-          );
-      whole = middle_whole;
-    }
+    middle_object =
+        object_of (MiddleNode kind parts) (Middle kind (trees (tree_of table.nodes) parts)) middle_tree refl
+        (middle_kind kind) (length parts) (words_at coercion_at parts) refl
+        (length-map parts (λ place. slice_index coercion_at place)) (few_wide kind (length parts) wide)
+        (ap (λ n. header (middle_kind kind) whole_high n ∷ []) (count_of_trees (tree_of table.nodes) parts))
+        (λ z. absurd (not_at_zero table.nodes coercion_at at parts (λ k d l. old.below _ (parts_before k d l)) normal.0
+        z))
+        (λ memory t h w. (
+          h ∙ ap (λ n. Some (header (middle_kind kind) whole_high n))
+              (sym (count_of_trees (tree_of table.nodes) parts)),
+          parts_stand memory types table.nodes coercion_at at (at + 8) parts w (parts_are memory t),
+        )) middle_whole
 
   -- ---- any node
 

@@ -3,7 +3,7 @@ use Rattle.std.proofs.Common.{zero}
 use Rattle.std.proofs.Common.{◌≡◌, ℕ, suc, ◌+◌, ◌*◌, ◌<◌, ◌≤◌, ◌^◌, true, refl, sym, ap, ◌∙◌, subst}
 use Rattle.std.proofs.Common.{arith}
 use Rattle.std.proofs.Common.{List, [], ◌∷◌, ◌++◌, length, Some, All, get_or}
-use Rattle.std.specs.Prelude.{slice_index, option_and_then, nat_le, ◌&&◌, IsSome}
+use Rattle.std.specs.Prelude.{slice_index, option_and_then, nat_le, ◌&&◌, IsSome, ◌↔◌}
 use Rattle.std.proofs.lemmas.List.{get_or_append_left}
 use Rattle.std.proofs.lemmas.List.Elements.{All-head, All-tail}
 use Rattle.std.proofs.Math.Seq.{get_or-append_seam}
@@ -23,14 +23,23 @@ use Rattle.coercion_norm.specs.StaticObjects.{StandEach, Tells, header, type_kin
 
 -- ---- words
 
+-- words that stand one behind another from an address on are two runs of words, where none stand anywhere, and where
+-- the first of some stands apart from those behind it
+pub words_part : (Stands : ℕ → ℕ → Type 0) (Stand : ℕ → List ℕ → Type 0) → ((at : ℕ) → Stand at [])
+    → ((at x : ℕ) (xs : List ℕ) → Stand at (x ∷ xs) ↔ (Stands at x × Stand (at + 8) xs)) → (at : ℕ) (xs ys : List ℕ)
+    → Stand at (xs ++ ys) → Stand at xs × Stand (at + 8 * length xs) ys
+words_part Stands Stand none first at [] ys h =
+    let e : at ≡ at + 8 * 0 = omega arith in (none at, subst (λ a. Stand a ys) e h)
+words_part Stands Stand none first at (x ∷ xs) ys h =
+    let apart = (first at x (xs ++ ys)).0 h in
+    let rest = words_part Stands Stand none first (at + 8) xs ys apart.1 in
+    let e : at + 8 + 8 * length xs ≡ at + 8 * length (x ∷ xs) = omega arith in
+    ((first at x xs).1 (apart.0, rest.0), subst (λ a. Stand a ys) e rest.1)
+
 pub tells_both : (memory : Telling) (at : ℕ) (xs ys : List ℕ) → Tells memory at (xs ++ ys)
     → Tells memory at xs × Tells memory (at + 8 * length xs) ys
-tells_both memory at [] ys t =
-    let e : at ≡ at + 8 * 0 = omega arith in (tt, subst (λ a. Tells memory a ys) e t)
-tells_both memory at (x ∷ xs) ys t =
-    let rest = tells_both memory (at + 8) xs ys t.1 in
-    let e : at + 8 + 8 * length xs ≡ at + 8 * length (x ∷ xs) = omega arith in
-    ((t.0, rest.0), subst (λ a. Tells memory a ys) e rest.1)
+tells_both memory =
+    words_part (λ at x. memory at ≡ Some x) (Tells memory) (λ at. tt) (λ at x xs. (λ h. h, λ h. h))
 
 -- words that are told for places hold what stands there
 pub stand_each : (memory : Telling) (Holds : ℕ → ℕ → Type 0) (told : List ℕ) (at : ℕ) (places : List ℕ)

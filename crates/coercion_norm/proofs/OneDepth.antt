@@ -2,7 +2,7 @@
 use Rattle.std.proofs.Common.{◌≡◌, ℕ, zero, suc, Bool, true, false, cond, ◌&&◌, Option, Some, None, refl, sym, ap, ◌∙◌}
 use Rattle.std.proofs.Common.{subst, inl, inr}
 use Rattle.grift_base.specs.Types.{TypeRow, is_dyn, head_of}
-use Rattle.coercion_norm.specs.Coercions.{Kind, FunKind, TupKind, RefKind, VecKind, Coercion, Coercions, Id, Fail}
+use Rattle.coercion_norm.specs.Coercions.{Kind, FunKind, Coercion, Coercions, Id, Fail}
 use Rattle.coercion_norm.specs.Coercions.{Middle, Inject, Project, NoCoercions, CoercionThen, is_end, is_id, all_id}
 use Rattle.coercion_norm.specs.Coercions.{same_kind, runs_back, kind_of, slot, slots}
 use Rattle.coercion_norm.specs.Paths.{Steps, Stop, Edge, last_type, joined, turned, along, solid, first_clash}

@@ -6,10 +6,7 @@ use Rattle.std.proofs.Math.Bool.{and-false}
 use Rattle.std.proofs.lemmas.List.Elements.{All-head, All-tail}
 use Rattle.coercion_norm.specs.declared.nodes.CoercionId.{CoercionId}
 use Rattle.coercion_norm.specs.declared.nodes.CoercionNode.{CoercionNode}
-use Rattle.coercion_norm.specs.declared.nodes.CoercionNode.TheVariants.{Id as IdCase, Fail as FailCase, Fun as FunCase}
-use Rattle.coercion_norm.specs.declared.nodes.CoercionNode.TheVariants.{Tup as TupCase, Ref as RefCase}
-use Rattle.coercion_norm.specs.declared.nodes.CoercionNode.TheVariants.{Vec as VecCase, Inject as InjectCase}
-use Rattle.coercion_norm.specs.declared.nodes.CoercionNode.TheVariants.{Project as ProjectCase}
+use Rattle.coercion_norm.specs.declared.nodes.CoercionNode.TheVariants.{Id as IdCase}
 use Rattle.coercion_norm.specs.Coercions.{Coercion, is_id, all_id}
 use Rattle.coercion_norm.specs.Heights.{coercion_height, highest}
 use Rattle.coercion_norm.specs.Nodes.{Node, AreOrdered, coercion_places, node_of, trees, grown, tree_of}

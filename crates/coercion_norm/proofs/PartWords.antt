@@ -15,7 +15,7 @@ use Rattle.object_layout.specs.declared.kinds.Wanted.TheVariants.{Coercion as Wa
 use Rattle.object_layout.specs.Kinds.{is_coercion, is_type, wanted_words}
 use Rattle.object_layout.specs.Wholes.{Telling, AreWanted, IsAddress, header_at, height_of, highest as highest_of}
 use Rattle.object_layout.specs.Wholes.{coercion_height as height_told, height_behind}
-use Rattle.coercion_norm.specs.Coercions.{Kind, FunKind, TupKind, RefKind, VecKind, Coercion, Id, Fail, Middle, Inject}
+use Rattle.coercion_norm.specs.Coercions.{Kind, FunKind, Coercion, Id, Fail, Middle, Inject}
 use Rattle.coercion_norm.specs.Coercions.{Project, all_id, is_id, rows_of}
 use Rattle.coercion_norm.specs.Heights.{coercion_height, highest}
 use Rattle.coercion_norm.specs.Nodes.{Node, tree_of, trees}

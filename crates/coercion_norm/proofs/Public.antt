@@ -28,6 +28,6 @@ pub use Rattle.coercion_norm.proofs.LaterTypes.{FitsTypes-later}
 pub use Rattle.coercion_norm.proofs.LabelLemmas.{coerce_labels, compose_labels}
 pub use Rattle.coercion_norm.proofs.WidthLemmas.{cast_no_wider, coerce_no_wider, type_slots_few}
 pub use Rattle.coercion_norm.proofs.IdAndDyn.{id_behind, a_dyn_inside}
-pub use Rattle.coercion_norm.proofs.Objects.{tells_both, told_header, told_kind}
+pub use Rattle.coercion_norm.proofs.Objects.{words_part, tells_both, told_header, told_kind}
 pub use Rattle.coercion_norm.proofs.ObjectLists.{Within, object_kept, object_behind, found_within, last_stands}
 pub use Rattle.coercion_norm.proofs.ObjectLists.{bytes_append, bytes_of_words, bytes_of_all_words, words_append}

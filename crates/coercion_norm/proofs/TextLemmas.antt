@@ -14,6 +14,17 @@ use Rattle.coercion_norm.specs.Texts.{HasLabels, HaveLabels, coercion_text, in_s
 use Rattle.coercion_norm.specs.Texts.{parts_text, project_text, separator}
 use Rattle.coercion_norm.proofs.NodeLemmas.{tree_is}
 
+-- two texts in sequence, written piece by piece
+sequence_written : (old one two : List ℕ) {a b d e : List ℕ} → a ≡ old ++ codes "(seq " → b ≡ a ++ one
+    → d ≡ b ++ codes " " → e ≡ d ++ two → e ++ codes ")" ≡ old ++ in_sequence one two
+sequence_written old one two opened first between second =
+    ap (λ (l : List ℕ). l ++ codes ")")
+    (second ∙ ap (λ (l : List ℕ). l ++ two)
+    (between ∙ ap (λ (l : List ℕ). l ++ codes " ") (first ∙ ap (λ (l : List ℕ). l ++ one) opened))) ∙ all
+  where
+    all : ((((old ++ codes "(seq ") ++ one) ++ codes " ") ++ two) ++ codes ")" ≡ old ++ in_sequence one two
+    all = simp append_assoc
+
 module _ (ty lab : ℕ → List ℕ) (nodes : List Node) (first : PartsBefore nodes) (c : ℕ) (old : List ℕ) where
   -- the text of the coercion at a place
   abbrev text : ℕ → List ℕ
@@ -38,15 +49,12 @@ module _ (ty lab : ℕ → List ℕ) (nodes : List Node) (first : PartsBefore no
         (ap (λ b. old ++ cond b (inject_text ty kept) (in_sequence (text g) (inject_text ty kept))) (sym alone))
 
     pub inject_behind_written : is_id (tree_of nodes g) ≡ false
-        → ((((old ++ codes "(seq ") ++ text g) ++ codes " ") ++ inject_text ty kept) ++ codes ")" ≡ old ++ text c
-    inject_behind_written more =
-        pieces (text g) (inject_text ty kept)
+        → {a b d e : List ℕ} → a ≡ old ++ codes "(seq " → b ≡ a ++ text g → d ≡ b ++ codes " "
+        → e ≡ d ++ inject_text ty kept → e ++ codes ")" ≡ old ++ text c
+    inject_behind_written more opened first between second =
+        sequence_written old (text g) (inject_text ty kept) opened first between second
         ∙ behind_node (InjectNode g kept) at _
         (ap (λ b. old ++ cond b (inject_text ty kept) (in_sequence (text g) (inject_text ty kept))) (sym more))
-      where
-        pieces : (one two : List ℕ) → ((((old ++ codes "(seq ") ++ one) ++ codes " ") ++ two) ++ codes ")"
-            ≡ old ++ in_sequence one two
-        pieces one two = simp append_assoc
 
   module _ (wanted label i : ℕ) (at : slice_get nodes c ≡ Some (ProjectNode wanted label i)) where
     pub project_written : is_id (tree_of nodes i) ≡ true → old ++ project_text ty lab wanted label ≡ old ++ text c
@@ -56,17 +64,13 @@ module _ (ty lab : ℕ → List ℕ) (nodes : List Node) (first : PartsBefore no
         (in_sequence (project_text ty lab wanted label) (text i))) (sym alone))
 
     pub project_before_written : is_id (tree_of nodes i) ≡ false
-        → ((((old ++ codes "(seq ") ++ project_text ty lab wanted label) ++ codes " ") ++ text i) ++ codes ")"
-        ≡ old ++ text c
-    project_before_written more =
-        pieces (project_text ty lab wanted label) (text i)
+        → {a b d e : List ℕ} → a ≡ old ++ codes "(seq " → b ≡ a ++ project_text ty lab wanted label
+        → d ≡ b ++ codes " " → e ≡ d ++ text i → e ++ codes ")" ≡ old ++ text c
+    project_before_written more opened first between second =
+        sequence_written old (project_text ty lab wanted label) (text i) opened first between second
         ∙ behind_node (ProjectNode wanted label i) at _
         (ap (λ b. old ++ cond b (project_text ty lab wanted label)
         (in_sequence (project_text ty lab wanted label) (text i))) (sym more))
-      where
-        pieces : (one two : List ℕ) → ((((old ++ codes "(seq ") ++ one) ++ codes " ") ++ two) ++ codes ")"
-            ≡ old ++ in_sequence one two
-        pieces one two = simp append_assoc
 
   pub middle_written : (kind : Kind) (parts : List ℕ) (written : List ℕ)
       → slice_get nodes c ≡ Some (MiddleNode kind parts)

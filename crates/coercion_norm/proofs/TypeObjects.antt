@@ -3,8 +3,8 @@ use Rattle.std.proofs.Common.{◌≡◌, ◌⊎◌, inl, inr, ℕ, zero, suc, �
 use Rattle.std.proofs.Common.{◌∙◌, subst, arith, List, [], ◌∷◌, ◌++◌, length, Some, All}
 use Rattle.std.specs.Prelude.{slice_index}
 use Rattle.std.proofs.lemmas.List.{get_or_past}
-use Rattle.grift_base.specs.Types.{TypeRow, TypeRows, IntRow, BoolRow, UnitRow, DynRow, FunRow, TupleRow, RefRow}
-use Rattle.grift_base.specs.Types.{VectRow, is_dyn, parts_of, row_at}
+use Rattle.grift_base.specs.Types.{TypeRow, TypeRows, IntRow, BoolRow, UnitRow, DynRow}
+use Rattle.grift_base.specs.Types.{is_dyn, parts_of, row_at}
 use Rattle.type_graph.specs.Trees.{height}
 use Rattle.type_graph.specs.TypeTables.{HasWidth, IsOrderedTable}
 use Rattle.type_graph.proofs.Public.{slice_get_at, parts_within}

@@ -107,15 +107,7 @@ module _ (width : ℕ) (types : TypeRows) (wide : NoWider width types) where
 module _ (l : Layout) (width : ℕ) where
   -- the same, but told another width
   abbrev pub told_width : Layout
-  told_width = record {
-    types = l.types;
-    type_at = l.type_at;
-    width = width;
-    statics = l.statics;
-    first = l.first;
-    region = l.region;
-    tallest = l.tallest;
-  }
+  told_width = record l { width = width }
 
   module _ (objects : List Object) where
     words_many : (parts : Coercions) (ws : List ℕ) → AreHeld l objects parts ws → length ws ≡ count_of parts

@@ -1,9 +1,9 @@
 -- Coercions as trees. Types and labels are numbers: a type is a place in a table of types, and a label one in a table
 -- of labels. Definitions read types by a function from places to rows; for a table that is `rows_of`.
-use Rattle.std.specs.Prelude.{ℕ, Bool, true, false, ◌&&◌, List, [], ◌∷◌, ◌++◌, length, Option, Some, None}
+use Rattle.std.specs.Prelude.{ℕ, Bool, true, false, ◌&&◌, List, [], ◌∷◌, length, Option, Some, None}
 use Rattle.std.specs.Prelude.{slice_index, slice_index_or}
 use Rattle.grift_base.specs.Types.{TypeRow, TypeRows, IntRow, BoolRow, UnitRow, DynRow, FunRow, TupleRow, RefRow}
-use Rattle.grift_base.specs.Types.{VectRow}
+use Rattle.grift_base.specs.Types.{VectRow, parts_of}
 -- the constructor of a middle
 pub use Rattle.coercion_norm.specs.declared.middles.MiddleKind.{MiddleKind as Kind}
 pub use Rattle.coercion_norm.specs.declared.middles.MiddleKind.TheVariants.{Fun as FunKind, Tup as TupKind}
@@ -65,16 +65,12 @@ kind_of (TupleRow parts) = Some TupKind
 kind_of (RefRow content) = Some RefKind
 kind_of (VectRow content) = Some VecKind
 
--- the types that the parts of such a middle speak of, in the order of its parts
+-- the types that the parts of such a middle speak of, in the order of its parts: those of the row, where a content
+-- counts twice, as it is read and as it is written
 abbrev pub slots_of : TypeRow → List ℕ
-slots_of IntRow = []
-slots_of BoolRow = []
-slots_of UnitRow = []
-slots_of DynRow = []
-slots_of (FunRow parameters answer) = parameters ++ answer ∷ []
-slots_of (TupleRow parts) = parts
 slots_of (RefRow content) = content ∷ content ∷ []
 slots_of (VectRow content) = content ∷ content ∷ []
+slots_of row = parts_of row
 
 module _ (rows : ℕ → TypeRow) where
   -- the type that part j of such a middle speaks of, for values of this type

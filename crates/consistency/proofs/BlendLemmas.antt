@@ -2,7 +2,7 @@
 use Rattle.std.proofs.Common.{◌≡◌, ℕ, zero, suc, ◌+◌, ◌-◌, ◌<◌, ◌≤◌, max, Bool, true, false, cond, List}
 use Rattle.std.proofs.Common.{[], ◌∷◌, ◌++◌, length, take, get_or, Option, Some, None, refl, sym, ap, ap₂, ◌∙◌}
 use Rattle.std.proofs.Common.{subst, arith, append_assoc, length-append}
-use Rattle.std.specs.Prelude.{◌&&◌, ◌||◌, All, MatchBool, option_map, slice_index}
+use Rattle.std.specs.Prelude.{◌||◌, All, MatchBool, option_map, slice_index}
 use Rattle.std.proofs.lemmas.Bool.{and_parts, eqb-true, eq-eqb}
 use Rattle.std.proofs.lemmas.List.{map_more, length-map, take_more, take_all, length-take-le, map-append}
 use Rattle.std.proofs.lemmas.List.Elements.{All-head, All-tail, All-cons, All-nil}
@@ -20,13 +20,15 @@ use Rattle.type_graph.specs.declared.tables.TheConstants.{MOST_HEIGHT}
 use Rattle.type_graph.proofs.Public.{none_is_not_some, get_kept, row_stays}
 use Rattle.type_graph.proofs.Public.{later_within, parts_end, height_grown, height_by_parts, place_found}
 use Rattle.type_graph.proofs.Public.{place_missing, rows_are_equal, row_is_itself, each_entry-insert}
+use Rattle.type_graph.proofs.Public.{parts_within, parts_lower, above_all-most, same_some}
 use Rattle.consistency.specs.declared.pairs.Pair.{Pair}
 use Rattle.std.specs.HashMap.{get}
 use Rattle.consistency.specs.contracts.pairs.PairPartialEq.TheImpl.{ghosts}
-use Rattle.consistency.specs.Consistency.{consistent_rows, consistent}
+use Rattle.consistency.specs.Consistency.{consistent}
 use Rattle.consistency.specs.Blending.{with_parts, blend_each, blend_rows, blend_to, AllBlend, IsBlendTo}
-use Rattle.consistency.specs.Known.{Blends, MayBlend, IsFormed, AreFormed, EachFormed, firsts, seconds}
-use Rattle.consistency.proofs.ConsistentLemmas.{consistent_by_rows}
+use Rattle.consistency.specs.Known.{Blends, MayBlend, IsFormed, AreFormed, EachFormed}
+use Rattle.consistency.specs.Pairs.{AreThere, firsts, seconds}
+use Rattle.consistency.proofs.ConsistentLemmas.{plain_pair}
 
 -- ---- rows with other parts
 
@@ -313,31 +315,34 @@ pub plain_consistent : (types : TypeRows) (a b : ℕ) (row other : TypeRow) → 
     consistent types a b ≡ true →
     (same_head row other ≡ true) × (related (consistent types) (parts_of row) (parts_of other) ≡ true)
 plain_consistent types a b row other finite within at_a at_b e f h =
-    let heads : Bool = same_head row other in
-    let parts : Bool = related (consistent types) (parts_of row) (parts_of other) in
-    let by_rows : (is_dyn row || is_dyn other || (heads && parts)) ≡ true =
-    ap₂ (λ r o. consistent_rows (consistent types) r o) (sym at_a) (sym at_b)
-    ∙ sym (consistent_by_rows types finite a b within) ∙ h in
-    let plain : (heads && parts) ≡ true =
-    ap₂ (λ s t. s || t || (heads && parts)) (sym e) (sym f) ∙ by_rows in
-    and_parts heads parts plain
+    and_parts (same_head row other) (related (consistent types) (parts_of row) (parts_of other))
+    (sym (plain_pair types finite a b within row other at_a at_b e f) ∙ h)
+
+-- pairs of parts of types that are there
+pub All-AreThere : (types : TypeRows) (pairs : List Pair) → All (λ s. s < length types) (firsts pairs) →
+    All (λ s. s < length types) (seconds pairs) → All (AreThere types) pairs
+All-AreThere types [] one two = All-nil (AreThere types)
+All-AreThere types (pair ∷ pairs) one two =
+    let below = λ (s : ℕ). s < length types in
+    All-cons (AreThere types) pair pairs
+    (record {
+      first = All-head below pair.first.0 (firsts pairs) one;
+      second = All-head below pair.second.0 (seconds pairs) two;
+    })
+    (All-AreThere types pairs (All-tail below pair.first.0 (firsts pairs) one)
+    (All-tail below pair.second.0 (seconds pairs) two))
 
 -- consistent parts may be blended
-pub All-MayBlend : (types : TypeRows) (pairs : List Pair) → All (λ s. s < length types) (firsts pairs) →
-    All (λ s. s < length types) (seconds pairs) → related (consistent types) (firsts pairs) (seconds pairs) ≡ true →
-    All (MayBlend types) pairs
-All-MayBlend types [] one two h = All-nil (MayBlend types)
-All-MayBlend types (pair ∷ pairs) one two h =
+pub All-MayBlend : (types : TypeRows) (pairs : List Pair) → All (AreThere types) pairs →
+    related (consistent types) (firsts pairs) (seconds pairs) ≡ true → All (MayBlend types) pairs
+All-MayBlend types [] there h = All-nil (MayBlend types)
+All-MayBlend types (pair ∷ pairs) there h =
     let both = and_parts (consistent types pair.first.0 pair.second.0)
     (related (consistent types) (firsts pairs) (seconds pairs)) h in
+    let head = All-head (AreThere types) pair pairs there in
     All-cons (MayBlend types) pair pairs
-    (record {
-      first_there = All-head (λ s. s < length types) pair.first.0 (firsts pairs) one;
-      second_there = All-head (λ s. s < length types) pair.second.0 (seconds pairs) two;
-      consistent_pair = both.0;
-    })
-    (All-MayBlend types pairs (All-tail (λ s. s < length types) pair.first.0 (firsts pairs) one)
-    (All-tail (λ s. s < length types) pair.second.0 (seconds pairs) two) both.1)
+    (record { first_there = head.first; second_there = head.second; consistent_pair = both.0 })
+    (All-MayBlend types pairs (All-tail (AreThere types) pair pairs there) both.1)
 
 -- ---- heights
 
@@ -412,6 +417,12 @@ have_blended_parts types middle a b row other pairs cs finite within at_a at_b e
   right = right;
   each = each;
 }
+
+-- the row of these blends, where the first type is looked up once more
+pub blended_row : {found row new : TypeRow} {at : Option TypeRow} {parts cs : List TypeId} → at ≡ Some found →
+    at ≡ Some row → new ≡ with_parts found (places_of parts) → parts ≡ cs → new ≡ with_parts row (places_of cs)
+blended_row {found} {row} at_found at_row new same =
+    new ∙ ap₂ (λ r (xs : List TypeId). with_parts r (places_of xs)) (same_some found row (sym at_found ∙ at_row)) same
 
 module _ (middle : TypeRows) (a b : ℕ) (row other : TypeRow) (pairs : List Pair) (cs : List TypeId)
     (table : IsOrderedTable middle) (known : HaveBlendedParts middle a b row other pairs cs) where
@@ -600,6 +611,21 @@ module _ (types : TypeRows) (a b : ℕ) (row other : TypeRow) (at_a : row_at typ
           ap (λ t. cond t (formed a) (cond (is_dyn other) (formed b) (joined blended)) rows) plain
           ∙ ap (λ t. cond t (formed b) (joined blended) rows) dyn
 
+-- ---- pairs of parts
+
+-- the parts of two rows by pairs are lower than the first of the two types, and there
+pub pairs_of_parts_fit : (types : TypeRows) → AreFinite types → (a b : ℕ) (row other : TypeRow) (pairs : List Pair) →
+    row_at types a ≡ Some row → row_at types b ≡ Some other → firsts pairs ≡ parts_of row →
+    seconds pairs ≡ parts_of other →
+    (above_all (height types) (firsts pairs) ≤ height types a) × All (AreThere types) pairs
+pairs_of_parts_fit types finite a b row other pairs at_a at_b left right =
+    let there = λ (xs : List ℕ). All (λ s. s < length types) xs in (
+      subst (λ (xs : List ℕ). above_all (height types) xs ≤ height types a) (sym left)
+          (above_all-most (height types) (height types a) (parts_of row) (parts_lower types finite a row at_a)),
+      All-AreThere types pairs (subst there (sym left) (parts_within types a row finite at_a))
+          (subst there (sym right) (parts_within types b other finite at_b)),
+    )
+
 -- ---- what is remembered
 
 same_pair : (x y : Pair) → ghosts.eq x y ≡ true → x ≡ y
@@ -620,6 +646,10 @@ AreFormed-insert types old new key c h one updates =
     (get ghosts.eq old) (get ghosts.eq new) key c h one updates
 
 -- ---- pairs in a list
+
+-- stands for an element where there is none
+abbrev pub nowhere : Pair
+nowhere = record { first = record { 0 = 0 }; second = record { 0 = 0 } }
 
 pub first_below_all : (f : ℕ → ℕ) (pairs : List Pair) (k : ℕ) (d : Pair) → k < length pairs →
     f (get_or pairs k d).first.0 < above_all f (firsts pairs)

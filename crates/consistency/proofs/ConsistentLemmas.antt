@@ -1,18 +1,16 @@
 -- Consistency goes by rows, and stays where rows are added.
-use Rattle.std.proofs.Common.{◌≡◌, ℕ, zero, suc, ◌<◌, Bool, true, false, List, [], ◌∷◌, ◌++◌, length}
-use Rattle.std.proofs.Common.{Option, Some, None, refl, ap, ap₂, ◌∙◌}
-use Rattle.std.specs.Prelude.{◌&&◌, ◌||◌, nat_eq, All}
+use Rattle.std.proofs.Common.{◌≡◌, ℕ, zero, suc, ◌<◌, Bool, true, false, List, [], ◌∷◌, length, take}
+use Rattle.std.proofs.Common.{get_or, ◌+◌, Option, Some, None, refl, ap, ap₂, ◌∙◌, arith}
+use Rattle.std.specs.Prelude.{◌&&◌, ◌||◌, All}
+use Rattle.std.proofs.lemmas.Bool.{and_parts}
 use Rattle.std.proofs.lemmas.List.Elements.{All-head, All-tail}
-use lib.Dec.{eqb-suc-suc, eqb-zero-suc, eqb-suc-zero}
-use Rattle.grift_base.specs.declared.places.TypeId.{TypeId}
 use Rattle.grift_base.specs.Types.{TypeRow, TypeRows, row_at, parts_of, is_dyn, same_head}
-use Rattle.type_graph.specs.Rows.{places_of, row_of}
-use Rattle.type_graph.specs.declared.rows.Row.{Row}
-use Rattle.type_graph.specs.declared.rows.Row.TheVariants.{Fun, Tuple, Ref, Vect}
 use Rattle.type_graph.specs.Trees.{row_parts, EndsWithin, AreFinite, related}
 use Rattle.type_graph.specs.TypeTables.{HasMoreRows}
 use Rattle.type_graph.proofs.Public.{row_same, parts_within, parts_end_twice, ends_deeper, ends_within_new}
+use Rattle.consistency.specs.declared.pairs.Pair.{Pair}
 use Rattle.consistency.specs.Consistency.{consistent_rows, consistent_to, consistent}
+use Rattle.consistency.specs.Pairs.{firsts, seconds}
 
 -- ---- parts one by one
 
@@ -92,88 +90,65 @@ module _ (types new : TypeRows) (finite : AreFinite types) (more : HasMoreRows t
       ∙ consistent_steady types (length new) (length types) a b (ends_within_new types new finite more a one)
       (finite.ends a one)
 
--- ---- parts of functions and tuples
-
--- functions are consistent where their parameters and results are
-pub related_functions : (f : ℕ → ℕ → Bool) (xs ys : List ℕ) (x y : ℕ) →
-    (nat_eq (length xs) (length ys) && related f (xs ++ x ∷ []) (ys ++ y ∷ [])) ≡ (related f xs ys && f x y)
-related_functions f [] [] x y = and_true (f x y)
-  where
-    and_true : (b : Bool) → (b && true) ≡ b
-    and_true true = refl
-    and_true false = refl
-related_functions f [] (z ∷ ys) x y =
-    ap (λ b. b && (f x z && related f [] (ys ++ y ∷ []))) (eqb-zero-suc (length ys))
-related_functions f (w ∷ xs) [] x y =
-    ap (λ b. b && (f w y && related f (xs ++ x ∷ []) [])) (eqb-suc-zero (length xs))
-related_functions f (w ∷ xs) (z ∷ ys) x y =
-    ap (λ b. b && (f w z && related f (xs ++ x ∷ []) (ys ++ y ∷ []))) (eqb-suc-suc (length xs) (length ys))
-    ∙ turned (nat_eq (length xs) (length ys)) (f w z) (related f (xs ++ x ∷ []) (ys ++ y ∷ []))
-    ∙ ap (λ b. f w z && b) (related_functions f xs ys x y)
-    ∙ grouped (f w z) (related f xs ys) (f x y)
-  where
-    turned : (a b c : Bool) → (a && (b && c)) ≡ (b && (a && c))
-    turned true true c = refl
-    turned true false c = refl
-    turned false true c = refl
-    turned false false c = refl
-
-    grouped : (a b c : Bool) → (a && (b && c)) ≡ ((a && b) && c)
-    grouped true b c = refl
-    grouped false b c = refl
-
-pub related_tuples : (f : ℕ → ℕ → Bool) (xs ys : List ℕ) →
-    (nat_eq (length xs) (length ys) && related f xs ys) ≡ related f xs ys
-related_tuples f [] [] = refl
-related_tuples f [] (y ∷ ys) = ap (λ b. b && false) (eqb-zero-suc (length ys))
-related_tuples f (x ∷ xs) [] = ap (λ b. b && false) (eqb-suc-zero (length xs))
-related_tuples f (x ∷ xs) (y ∷ ys) =
-    ap (λ b. b && (f x y && related f xs ys)) (eqb-suc-suc (length xs) (length ys))
-    ∙ turned (nat_eq (length xs) (length ys)) (f x y) (related f xs ys)
-    ∙ ap (λ b. f x y && b) (related_tuples f xs ys)
-  where
-    turned : (a b c : Bool) → (a && (b && c)) ≡ (b && (a && c))
-    turned true true c = refl
-    turned true false c = refl
-    turned false true c = refl
-    turned false false c = refl
-
 -- ---- consistency by the rows of two types
 
-and_true : (b : Bool) → (b && true) ≡ b
-and_true true = refl
-and_true false = refl
+module _ (types : TypeRows) (finite : AreFinite types) (a b : ℕ) (within : a < length types) (row other : TypeRow)
+    (at_a : row_at types a ≡ Some row) (at_b : row_at types b ≡ Some other) where
+  abbrev have_parts : Bool
+  have_parts = same_head row other && related (consistent types) (parts_of row) (parts_of other)
 
-module _ (types : TypeRows) (finite : AreFinite types) (a b : ℕ) (within : a < length types) where
-  by_rows : {row other first second : Row} → row ≡ first → other ≡ second → row_at types a ≡ Some (row_of row) →
-      row_at types b ≡ Some (row_of other) →
-      consistent types a b ≡ consistent_rows (consistent types) (Some (row_of first)) (Some (row_of second))
-  by_rows is_first is_second at_a at_b =
-      consistent_by_rows types finite a b within
-      ∙ ap₂ (λ r o. consistent_rows (consistent types) r o) (at_a ∙ ap (λ r. Some (row_of r)) is_first)
-      (at_b ∙ ap (λ r. Some (row_of r)) is_second)
+  by_rows : consistent types a b ≡ (is_dyn row || is_dyn other || have_parts)
+  by_rows =
+      consistent_by_rows types finite a b within ∙ ap₂ (λ r o. consistent_rows (consistent types) r o) at_a at_b
 
-  pub functions_consistent : {row other : Row} {xs ys : List TypeId} {x y : TypeId} → row ≡ Fun xs x →
-      other ≡ Fun ys y → row_at types a ≡ Some (row_of row) → row_at types b ≡ Some (row_of other) →
-      consistent types a b ≡ (related (consistent types) (places_of xs) (places_of ys) && consistent types x.0 y.0)
-  functions_consistent {row} {other} {xs} {ys} {x} {y} is_first is_second at_a at_b =
-      by_rows is_first is_second at_a at_b
-      ∙ related_functions (consistent types) (places_of xs) (places_of ys) x.0 y.0
+  -- Dyn is consistent with every type
+  pub dyn_consistent : is_dyn row ≡ true → consistent types a b ≡ true
+  dyn_consistent dyn = by_rows ∙ ap (λ d. d || is_dyn other || have_parts) dyn
 
-  pub tuples_consistent : {row other : Row} {xs ys : List TypeId} → row ≡ Tuple xs → other ≡ Tuple ys →
-      row_at types a ≡ Some (row_of row) → row_at types b ≡ Some (row_of other) →
-      consistent types a b ≡ related (consistent types) (places_of xs) (places_of ys)
-  tuples_consistent {row} {other} {xs} {ys} is_first is_second at_a at_b =
-      by_rows is_first is_second at_a at_b ∙ related_tuples (consistent types) (places_of xs) (places_of ys)
+  -- and so is every other type with Dyn
+  pub consistent_dyn : is_dyn row ≡ false → is_dyn other ≡ true → consistent types a b ≡ true
+  consistent_dyn plain dyn = by_rows ∙ ap₂ (λ s t. s || t || have_parts) plain dyn
 
-  pub references_consistent : {row other : Row} {x y : TypeId} → row ≡ Ref x → other ≡ Ref y →
-      row_at types a ≡ Some (row_of row) → row_at types b ≡ Some (row_of other) →
-      consistent types a b ≡ consistent types x.0 y.0
-  references_consistent {row} {other} {x} {y} is_first is_second at_a at_b =
-      by_rows is_first is_second at_a at_b ∙ and_true (consistent types x.0 y.0)
+  -- two other types are where their heads are equal and their parts are consistent
+  pub plain_pair : is_dyn row ≡ false → is_dyn other ≡ false → consistent types a b ≡ have_parts
+  plain_pair plain also = by_rows ∙ ap₂ (λ s t. s || t || have_parts) plain also
 
-  pub vectors_consistent : {row other : Row} {x y : TypeId} → row ≡ Vect x → other ≡ Vect y →
-      row_at types a ≡ Some (row_of row) → row_at types b ≡ Some (row_of other) →
-      consistent types a b ≡ consistent types x.0 y.0
-  vectors_consistent {row} {other} {x} {y} is_first is_second at_a at_b =
-      by_rows is_first is_second at_a at_b ∙ and_true (consistent types x.0 y.0)
+  pub heads_differ : is_dyn row ≡ false → is_dyn other ≡ false → same_head row other ≡ false →
+      consistent types a b ≡ false
+  heads_differ plain also e =
+      plain_pair plain also ∙ ap (λ h. h && related (consistent types) (parts_of row) (parts_of other)) e
+
+  pub heads_agree : is_dyn row ≡ false → is_dyn other ≡ false → same_head row other ≡ true →
+      consistent types a b ≡ related (consistent types) (parts_of row) (parts_of other)
+  heads_agree plain also e =
+      plain_pair plain also ∙ ap (λ h. h && related (consistent types) (parts_of row) (parts_of other)) e
+
+-- ---- pairs of types, as far as they are gone through
+
+-- a pair that is not related spoils the pairs
+pub pairs_fail : (f : ℕ → ℕ → Bool) (pairs : List Pair) (k : ℕ) (d : Pair) → k < length pairs →
+    f (get_or pairs k d).first.0 (get_or pairs k d).second.0 ≡ false →
+    related f (firsts pairs) (seconds pairs) ≡ false
+pairs_fail f [] k d within e = absurd (omega arith)
+pairs_fail f (pair ∷ pairs) zero d within e = ap (λ b. b && related f (firsts pairs) (seconds pairs)) e
+pairs_fail f (pair ∷ pairs) (suc k) d within e =
+    ap (λ b. f pair.first.0 pair.second.0 && b) (pairs_fail f pairs k d (omega arith) e)
+    ∙ and_false (f pair.first.0 pair.second.0)
+  where
+    and_false : (b : Bool) → (b && false) ≡ false
+    and_false true = refl
+    and_false false = refl
+
+-- one pair more
+pub pairs_more : (f : ℕ → ℕ → Bool) (pairs : List Pair) (k : ℕ) (d : Pair) → k < length pairs →
+    related f (firsts (take k pairs)) (seconds (take k pairs)) ≡ true →
+    f (get_or pairs k d).first.0 (get_or pairs k d).second.0 ≡ true →
+    related f (firsts (take (k + 1) pairs)) (seconds (take (k + 1) pairs)) ≡ true
+pairs_more f [] k d within e h = absurd (omega arith)
+pairs_more f (pair ∷ pairs) zero d within e h = ap (λ b. b && true) h
+pairs_more f (pair ∷ pairs) (suc k) d within e h =
+    let both = and_parts (f pair.first.0 pair.second.0)
+    (related f (firsts (take k pairs)) (seconds (take k pairs))) e in
+    let one : suc k + 1 ≡ suc (k + 1) = omega arith in
+    ap (λ n. related f (firsts (take n (pair ∷ pairs))) (seconds (take n (pair ∷ pairs)))) one
+    ∙ ap₂ ◌&&◌ both.0 (pairs_more f pairs k d (omega arith) both.1 h)

@@ -9,14 +9,16 @@ use Rattle.type_graph.specs.Rows.{places_of}
 use Rattle.type_graph.specs.Forming.{intern}
 use Rattle.type_graph.specs.Trees.{row_parts, IsClosed, EndsWithin, AreFinite, related}
 use Rattle.type_graph.specs.TypeTables.{HasMoreRows, IsOrderedTable}
-use Rattle.type_graph.proofs.Public.{slice_get_at, same_rows, more_rows, later_within, parts_within}
+use Rattle.type_graph.proofs.Public.{slice_get_at, same_rows, more_rows, later_within}
 use Rattle.type_graph.proofs.Public.{parts_end, ends_grown, IsOrderedTable-intern, row_at-intern, intern_adds}
 use Rattle.consistency.specs.declared.pairs.Pair.{Pair}
 use Rattle.consistency.specs.Consistency.{consistent}
 use Rattle.consistency.specs.Blending.{with_parts, blend_each, blend_rows, blend_to, blend}
-use Rattle.consistency.specs.Known.{MayBlend, IsFormed, EachFormed, FormsBlend, firsts, seconds}
+use Rattle.consistency.specs.Known.{MayBlend, IsFormed, EachFormed, FormsBlend}
+use Rattle.consistency.specs.Pairs.{firsts, seconds}
 use Rattle.consistency.proofs.ConsistentLemmas.{consistent_kept}
 use Rattle.consistency.proofs.BlendLemmas.{IsFormed-grown, plain_blend, plain_consistent, All-MayBlend, both_fits}
+use Rattle.consistency.proofs.BlendLemmas.{pairs_of_parts_fit}
 use Rattle.consistency.proofs.BlendLemmas.{have_blended_parts}
 use Rattle.consistency.proofs.BlendLemmas.{IsFormed-both, IsFormed-first, IsFormed-second, heads_have_one_width}
 
@@ -134,12 +136,8 @@ module _ (depth : ℕ) (forms : FormsBlends depth) (types : TypeRows) (a b : ℕ
       let pairs : List Pair = pair_up xs ys in
       let left : firsts pairs ≡ xs = firsts-pair_up xs ys lengths in
       let right : seconds pairs ≡ ys = seconds-pair_up xs ys lengths in
-      let may = All-MayBlend types pairs
-      (subst (λ (l : List ℕ). All (λ s. s < length types) l) (sym left)
-      (parts_within types a row table.finite at_a))
-      (subst (λ (l : List ℕ). All (λ s. s < length types) l) (sym right)
-      (parts_within types b other table.finite at_b))
-      (ap₂ (λ l m. related (consistent types) l m) left right ∙ parts.1) in
+      let fit = pairs_of_parts_fit types table.finite a b row other pairs at_a at_b left right in
+      let may = All-MayBlend types pairs fit.1 (ap₂ (λ l m. related (consistent types) l m) left right ∙ parts.1) in
       let parts_deep : All (EndsWithin depth types) (firsts pairs) =
       subst (λ (l : List ℕ). All (EndsWithin depth types) l) (ap row_parts at_a ∙ sym left)
       (parts_end types depth a deep) in

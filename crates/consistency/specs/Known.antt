@@ -1,5 +1,5 @@
 -- What is remembered of pairs of types.
-use Rattle.std.specs.Prelude.{◌≡◌, ℕ, ◌<◌, ◌≤◌, ◌++◌, max, true, List, [], ◌∷◌, length, map, Some}
+use Rattle.std.specs.Prelude.{◌≡◌, ℕ, ◌<◌, ◌≤◌, ◌++◌, max, true, List, [], ◌∷◌, length, Some}
 use Rattle.std.specs.HashSet.{HashSet, contains}
 use Rattle.std.specs.HashMap.{HashMap, get}
 use Rattle.std.specs.declared.hash.FoldHasher.{FoldHasher}
@@ -54,12 +54,6 @@ EachFormed types [] (c ∷ cs) = ⊥
 EachFormed types (pair ∷ pairs) [] = ⊥
 EachFormed types (pair ∷ pairs) (c ∷ cs) =
     IsFormed types pair.first.0 pair.second.0 c.0 × EachFormed types pairs cs
-
-abbrev pub firsts : List Pair → List ℕ
-firsts pairs = map (λ pair. pair.first.0) pairs
-
-abbrev pub seconds : List Pair → List ℕ
-seconds pairs = map (λ pair. pair.second.0) pairs
 
 -- the blend and the table that are formed from this table are as they should be: the table is one and has the rows that
 -- were there, and the blend is there

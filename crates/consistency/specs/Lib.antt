@@ -1,3 +1,4 @@
 pub mod Consistency
 pub mod Blending
+pub mod Pairs
 pub mod Known

@@ -1,15 +1,16 @@
 // What two types have in common.
 
 ghost use Rattle.std.specs.Prelude.{◌≡◌, ◌<◌, ◌++◌, ◌∷◌, [], ℕ, All, IfOk, OnOk, length, true};
-ghost use Rattle.grift_base.specs.Types.{is_dyn, parts_of, same_head};
+ghost use Rattle.grift_base.specs.Types.{parts_of};
 ghost use Rattle.type_graph.specs.Rows.{places_of, row_of};
 ghost use Rattle.type_graph.specs.Trees.{EndsWithin};
 ghost use Rattle.type_graph.specs.TypeTables.{HasMoreRows};
 ghost use Rattle.consistency.specs.Consistency.{consistent};
 ghost use Rattle.consistency.specs.Blending.{IsBlend, blend, blend_each, blend_to, with_parts};
-ghost use Rattle.consistency.specs.Known.{AreFormed, EachFormed, GivesBlend, IsFormed, MayBlend, firsts, seconds};
+ghost use Rattle.consistency.specs.Known.{AreFormed, EachFormed, GivesBlend, IsFormed, MayBlend};
+ghost use Rattle.consistency.specs.Pairs.{firsts, seconds};
 
-use crate::pairs::Pair;
+use crate::pairs::{Pair, is_dyn, pairs_of_parts};
 use grift_base::lists::OutOfMemory;
 use grift_base::places::TypeId;
 use std::alloc::Global;
@@ -18,8 +19,8 @@ use type_graph::rows::{Row, TypeIds};
 use type_graph::tables::TypeTable;
 
 /// The blend of two consistent types: Dyn where either is Dyn, else the type with their head and the blends of their
-/// parts. Its rows go last in the table where they are not there yet, parts first, from left to right. Pairs that were
-/// blended are remembered. After `OutOfMemory` the table may have more rows at its end.
+/// parts. Its rows go last in the table where they are not there yet, parts first, from left to right. Pairs whose
+/// parts were blended are remembered. After `OutOfMemory` the table may have more rows at its end.
 pub fn blend(
     alloc: Global,
     types: &mut TypeTable,
@@ -36,73 +37,44 @@ pub fn blend(
     // The table is one: `len` says that no row stands twice and that its types are trees.
     types.len();
     let mut known = HashMap::new(alloc);
-    form(alloc, &mut known, types, a, b)
+    form(alloc, &mut known, types, Pair::new(a, b))
 }
 
-// The blend of two types, where those of these pairs are there.
+// The blend of a pair of types, where those of these pairs are there. That of Dyn needn't be remembered.
 #[cycle(form)]
 fn form(
     alloc: Global,
     known: &mut HashMap<Pair, TypeId>,
     types: &mut TypeTable,
-    a: TypeId,
-    b: TypeId,
+    pair: Pair,
 ) -> Result<TypeId, OutOfMemory>
-    requires a { a.0 < length types.old }
-    requires b { b.0 < length types.old }
-    requires consistent { consistent types.old a.0 b.0 ≡ true }
+    requires pair { MayBlend types.old pair }
     requires known { AreFormed types.old known.old }
-    ensures computed { IfOk result (λ c. GivesBlend types.old a.0 b.0 c.0 types.new) }
-    ensures formed { IfOk result (λ c. IsFormed types.new a.0 b.0 c.0) }
+    ensures computed { IfOk result (λ c. GivesBlend types.old pair.first.0 pair.second.0 c.0 types.new) }
+    ensures formed { IfOk result (λ c. IsFormed types.new pair.first.0 pair.second.0 c.0) }
     ensures known { OnOk result (AreFormed types.new known.new) }
     ensures grown { HasMoreRows types.old types.new }
 {
-    let pair = Pair {
-        first: a,
-        second: b,
-    };
     if let Some(c) = known.get(&pair).copied() {
         return Ok(c);
     }
-    let c = form_row(alloc, known, types, a, b)?;
-    known.insert(pair, c)?;
-    Ok(c)
-}
-
-// The same by the rows of the two.
-#[cycle(form)]
-fn form_row(
-    alloc: Global,
-    known: &mut HashMap<Pair, TypeId>,
-    types: &mut TypeTable,
-    a: TypeId,
-    b: TypeId,
-) -> Result<TypeId, OutOfMemory>
-    requires a { a.0 < length types.old }
-    requires b { b.0 < length types.old }
-    requires consistent { consistent types.old a.0 b.0 ≡ true }
-    requires known { AreFormed types.old known.old }
-    ensures computed { IfOk result (λ c. GivesBlend types.old a.0 b.0 c.0 types.new) }
-    ensures formed { IfOk result (λ c. IsFormed types.new a.0 b.0 c.0) }
-    ensures known { OnOk result (AreFormed types.new known.new) }
-    ensures grown { HasMoreRows types.old types.new }
-{
     // The table is one: `len` says that no row stands twice and that its types are trees.
     types.len();
-    let row = types.row(a);
-    let other = types.row(b);
+    let row = types.row(pair.first);
+    let other = types.row(pair.second);
     if is_dyn(row) {
-        return Ok(a);
+        return Ok(pair.first);
     }
     if is_dyn(other) {
-        return Ok(b);
+        return Ok(pair.second);
     }
     let pairs = pairs_of_parts(alloc, row, other)?;
     let parts = form_each(alloc, known, types, pairs.as_slice())?;
     // The table is one: `len` says that no row stands twice and that its types are trees.
     types.len();
-    let both = row_with_parts(alloc, types.row(a), parts.as_slice())?;
+    let both = row_with_parts(alloc, types.row(pair.first), parts.as_slice())?;
     let c = types.intern(both)?;
+    known.insert(pair, c)?;
     // The table is one: `len` says that no row stands twice and that its types are trees.
     types.len();
     Ok(c)
@@ -131,7 +103,7 @@ fn form_each(
     for pair in pairs {
         // The table is one: `len` says that no row stands twice and that its types are trees.
         types.len();
-        let part = form(alloc, known, types, pair.first, pair.second)?;
+        let part = form(alloc, known, types, *pair)?;
         push(&mut parts, part)?;
     }
     Ok(parts)
@@ -142,50 +114,6 @@ fn push(parts: &mut Vec<TypeId>, part: TypeId) -> Result<(), OutOfMemory>
 {
     parts.push(part)?;
     Ok(())
-}
-
-fn is_dyn(row: &Row) -> bool
-    ensures { result ≡ is_dyn (row_of row.now) }
-{
-    matches!(row, Row::Dyn)
-}
-
-// The types of these lists by pairs.
-fn zip(alloc: Global, left: &[TypeId], right: &[TypeId]) -> Result<Vec<Pair>, OutOfMemory>
-    requires { length left.now ≡ length right.now }
-    ensures firsts { IfOk result (λ pairs. firsts pairs.items ≡ places_of left.now) }
-    ensures seconds { IfOk result (λ pairs. seconds pairs.items ≡ places_of right.now) }
-{
-    let mut pairs = Vec::new(alloc);
-    for (i, first) in left.iter().enumerate() {
-        pairs.push(Pair {
-            first: *first,
-            second: right[i],
-        })?;
-    }
-    Ok(pairs)
-}
-
-// The parts of two rows with the same head, by pairs.
-fn pairs_of_parts(alloc: Global, row: &Row, other: &Row) -> Result<Vec<Pair>, OutOfMemory>
-    requires { same_head (row_of row.now) (row_of other.now) ≡ true }
-    ensures firsts { IfOk result (λ pairs. firsts pairs.items ≡ parts_of (row_of row.now)) }
-    ensures seconds { IfOk result (λ pairs. seconds pairs.items ≡ parts_of (row_of other.now)) }
-{
-    match (row, other) {
-        (Row::Fun(parameters, result), Row::Fun(others, other)) => {
-            let mut pairs = zip(alloc, parameters.as_slice(), others.as_slice())?;
-            pairs.push(Pair {
-                first: *result,
-                second: *other,
-            })?;
-            Ok(pairs)
-        }
-        (Row::Tuple(parts), Row::Tuple(others)) => zip(alloc, parts.as_slice(), others.as_slice()),
-        (Row::Ref(content), Row::Ref(other)) => zip(alloc, &[*content], &[*other]),
-        (Row::Vect(content), Row::Vect(other)) => zip(alloc, &[*content], &[*other]),
-        _ => Ok(Vec::new(alloc)),
-    }
 }
 
 // The row of the same constructor with these parts.

@@ -1,13 +1,13 @@
 // Which types are consistent, and which have the same head.
 
-ghost use Rattle.std.specs.Prelude.{◌≡◌, ◌<◌, All, IfOk, IfSome, Some, length};
+ghost use Rattle.std.specs.Prelude.{◌≡◌, ◌<◌, All, IfOk, Some, length};
 ghost use Rattle.grift_base.specs.Types.{TypeRow, row_at, same_head};
-ghost use Rattle.type_graph.specs.Rows.{places_of, row_of};
 ghost use Rattle.type_graph.specs.Trees.{related};
 ghost use Rattle.consistency.specs.Consistency.{consistent};
 ghost use Rattle.consistency.specs.Known.{AreConsistent};
+ghost use Rattle.consistency.specs.Pairs.{AreThere, firsts, seconds};
 
-use crate::pairs::Pair;
+use crate::pairs::{Pair, is_dyn, pairs_of_parts};
 use grift_base::lists::OutOfMemory;
 use grift_base::places::TypeId;
 use std::alloc::Global;
@@ -35,8 +35,8 @@ pub fn same_head(types: &TypeTable, a: TypeId, b: TypeId) -> bool
 }
 
 /// Whether two types are consistent: Dyn with every type, two others where their heads are equal and their parts are
-/// consistent. Pairs that were found consistent are remembered, so that types of many shared rows take no more work
-/// than there are pairs of their rows.
+/// consistent. Pairs whose parts were found consistent are remembered, so that types of many shared rows take no more
+/// work than there are pairs of their rows.
 pub fn consistent(
     alloc: Global,
     types: &TypeTable,
@@ -48,94 +48,63 @@ pub fn consistent(
     ensures { IfOk result (λ answer. answer ≡ consistent types.now a.0 b.0) }
 {
     let mut known = HashSet::new(alloc);
-    check(&mut known, types, a, b)
+    check(alloc, &mut known, types, Pair::new(a, b))
 }
 
-// Whether two types are consistent, where these pairs are.
+// Whether two types are consistent, where these pairs are. Pairs that differ in their heads, or of which one is Dyn,
+// needn't be remembered.
 #[cycle(check)]
 fn check(
+    alloc: Global,
     known: &mut HashSet<Pair>,
     types: &TypeTable,
-    a: TypeId,
-    b: TypeId,
+    pair: Pair,
 ) -> Result<bool, OutOfMemory>
-    requires a { a.0 < length types.now }
-    requires b { b.0 < length types.now }
+    requires pair { AreThere types.now pair }
     requires known { AreConsistent types.now known.old }
-    ensures answer { IfOk result (λ answer. answer ≡ consistent types.now a.0 b.0) }
+    ensures answer { IfOk result (λ answer. answer ≡ consistent types.now pair.first.0 pair.second.0) }
     ensures known { AreConsistent types.now known.new }
 {
-    let pair = Pair {
-        first: a,
-        second: b,
-    };
     if known.contains(&pair) {
         return Ok(true);
     }
-    let answer = check_rows(known, types, a, b)?;
+    // The table is one: `len` says that no row stands twice and that its types are trees.
+    types.len();
+    let row = types.row(pair.first);
+    let other = types.row(pair.second);
+    if is_dyn(row) {
+        return Ok(true);
+    }
+    if is_dyn(other) {
+        return Ok(true);
+    }
+    if !same_head(types, pair.first, pair.second) {
+        return Ok(false);
+    }
+    let pairs = pairs_of_parts(alloc, row, other)?;
+    let answer = check_each(alloc, known, types, pairs.as_slice())?;
     if answer {
         known.insert(pair)?;
     }
     Ok(answer)
 }
 
-// The same by the rows of the two.
-#[cycle(check)]
-fn check_rows(
-    known: &mut HashSet<Pair>,
-    types: &TypeTable,
-    a: TypeId,
-    b: TypeId,
-) -> Result<bool, OutOfMemory>
-    requires a { a.0 < length types.now }
-    requires b { b.0 < length types.now }
-    requires known { AreConsistent types.now known.old }
-    ensures answer { IfOk result (λ answer. answer ≡ consistent types.now a.0 b.0) }
-    ensures known { AreConsistent types.now known.new }
-{
-    // The table is one: `len` says that no row stands twice and that its types are trees.
-    types.len();
-    match (types.row(a), types.row(b)) {
-        (Row::Dyn, _) | (_, Row::Dyn) => Ok(true),
-        (Row::Int, Row::Int) | (Row::Bool, Row::Bool) | (Row::Unit, Row::Unit) => Ok(true),
-        (Row::Fun(parameters, result), Row::Fun(others, other)) => {
-            if !check_each(known, types, parameters.as_slice(), others.as_slice())? {
-                return Ok(false);
-            }
-            check(known, types, *result, *other)
-        }
-        (Row::Tuple(parts), Row::Tuple(others)) => check_each(
-            known,
-            types,
-            parts.as_slice(),
-            others.as_slice(),
-        ),
-        (Row::Ref(content), Row::Ref(other)) => check(known, types, *content, *other),
-        (Row::Vect(content), Row::Vect(other)) => check(known, types, *content, *other),
-        _ => Ok(false),
-    }
-}
-
-// Whether these types are consistent one by one.
+// Whether the types of each of these pairs are consistent.
 #[cycle(check)]
 fn check_each(
+    alloc: Global,
     known: &mut HashSet<Pair>,
     types: &TypeTable,
-    parts: &[TypeId],
-    others: &[TypeId],
+    pairs: &[Pair],
 ) -> Result<bool, OutOfMemory>
-    requires parts { All (λ part. part < length types.now) (places_of parts.now) }
-    requires others { All (λ part. part < length types.now) (places_of others.now) }
+    requires pairs { All (AreThere types.now) pairs.now }
     requires known { AreConsistent types.now known.old }
     ensures answer { IfOk result (λ answer.
-        answer ≡ related (consistent types.now) (places_of parts.now) (places_of others.now)) }
+        answer ≡ related (consistent types.now) (firsts pairs.now) (seconds pairs.now)) }
     ensures known { AreConsistent types.now known.new }
 {
-    if parts.len() != others.len() {
-        return Ok(false);
-    }
-    for (i, part) in parts.iter().enumerate() {
-        if !check(known, types, *part, others[i])? {
+    for pair in pairs {
+        if !check(alloc, known, types, *pair)? {
             return Ok(false);
         }
     }

@@ -1,22 +1,21 @@
 -- A term has one type, and so does a value.
-use Rattle.std.proofs.Common.{◌≡◌, ℕ, zero, suc, List, [], ◌∷◌, ◌++◌, Some, sym, ap, ◌∙◌, subst}
+use Rattle.std.proofs.Common.{◌≡◌, ℕ, zero, suc, List, ◌∷◌, ◌++◌, Some, sym, ap, ◌∙◌, subst}
 use Rattle.std.proofs.Common.{true, false, slice_get}
 use Rattle.grift_base.specs.Types.{TypeRow, IntRow, BoolRow, UnitRow, DynRow, FunRow, TupleRow, RefRow, VectRow}
 use Rattle.grift_base.specs.Types.{TypeRows, row_at, tuple_part}
 use Rattle.grift_base.specs.declared.operators.PrimOp.{PrimOp}
-use Rattle.grift_base.specs.declared.operators.PrimOp.TheVariants.{Add, Sub, Mul, Quot, Rem, Lt, Le, Eq, Ge, Gt, Not}
-use Rattle.grift_base.specs.declared.operators.PrimOp.TheVariants.{PrintInt, Newline, ReadInt, MakeBox, Unbox, BoxSet}
-use Rattle.grift_base.specs.declared.operators.PrimOp.TheVariants.{MakeVector, VectorRef, VectorSet, VectorLength}
 use Rattle.core_calc.specs.Terms.{Term, Terms, Members, Bindings, Value, Values, IntLit, BoolLit, UnitLit, Var, Lambda}
 use Rattle.core_calc.specs.Terms.{Group, Let, Call, Enter, If, Seq, Cast, Proj, ProjDyn, Tuple, Prim, ValueTerm}
 use Rattle.core_calc.specs.Terms.{NoTerms, TermThen, NoMembers, MemberThen, NoBindings, BindingThen, IntValue}
 use Rattle.core_calc.specs.Terms.{BoolValue, UnitValue, FunValue, MemberValue, TupleValue, LocValue, WrapValue}
 use Rattle.core_calc.specs.Terms.{InjectValue, NoValues, ValueThen}
 use Rattle.core_calc.specs.Substitution.{entry_of}
-use Rattle.core_calc.specs.Typing.{Context, CellType, IsTypeTable, MemberHasType, IsOne, OperatorHasType}
+use Rattle.core_calc.specs.TypeOf.{operator_type}
+use Rattle.core_calc.specs.Typing.{Context, CellType, IsTypeTable, MemberHasType, OperatorHasType}
 use Rattle.core_calc.specs.Typing.{HasType, HaveTypes, LastHasType, BindingsHaveTypes, ValueHasType, ValuesHaveTypes}
 use Rattle.core_calc.proofs.ListPlaces.{both_some}
 use Rattle.core_calc.proofs.RowsOfTables.{same_type}
+use Rattle.core_calc.proofs.TypesComputed.{operator_found}
 
 module _ (types : TypeRows) (table : IsTypeTable types) where
   abbrev HasRowAt : ℕ → TypeRow → Type 0
@@ -26,58 +25,12 @@ module _ (types : TypeRows) (table : IsTypeTable types) where
   rows_agree : (a b : ℕ) (row other : TypeRow) → a ≡ b → HasRowAt a row → HasRowAt b other → row ≡ other
   rows_agree a b row other e f g = both_some (row_at types b) row other (ap (λ t. row_at types t) (sym e) ∙ f) g
 
-  -- ---- operators
-
-  first_of_one : (operands : List ℕ) (a b : ℕ) → operands ≡ a ∷ [] → operands ≡ b ∷ [] → a ≡ b
-  first_of_one operands a b e f = cc
-
-  operand_of_one : (operands : List ℕ) (row other : TypeRow) → IsOne types operands row → IsOne types operands other →
-      row ≡ other
-  operand_of_one operands row other h k =
-      rows_agree h.0 k.0 row other (first_of_one operands h.0 k.0 h.1 k.1) h.2 k.2
-
-  content_of_ref : (a b : ℕ) → RefRow a ≡ RefRow b → a ≡ b
-  content_of_ref a b e = cc
-
-  content_of_vect : (a b : ℕ) → VectRow a ≡ VectRow b → a ≡ b
-  content_of_vect a b e = cc
-
-  first_of_two : (operands : List ℕ) (a b c d : ℕ) → operands ≡ a ∷ c ∷ [] → operands ≡ b ∷ d ∷ [] → a ≡ b
-  first_of_two operands a b c d e f = cc
-
-  second_of_two : (operands : List ℕ) (a b c d : ℕ) → operands ≡ a ∷ c ∷ [] → operands ≡ b ∷ d ∷ [] → c ≡ d
-  second_of_two operands a b c d e f = cc
-
   -- an operator answers one type for these operand types
   one_answer : (operator : PrimOp) (operands : List ℕ) (a b : ℕ) → OperatorHasType types operator operands a →
       OperatorHasType types operator operands b → a ≡ b
-  one_answer Add operands a b h k = same_type types table a b IntRow h.1 k.1
-  one_answer Sub operands a b h k = same_type types table a b IntRow h.1 k.1
-  one_answer Mul operands a b h k = same_type types table a b IntRow h.1 k.1
-  one_answer Quot operands a b h k = same_type types table a b IntRow h.1 k.1
-  one_answer Rem operands a b h k = same_type types table a b IntRow h.1 k.1
-  one_answer Lt operands a b h k = same_type types table a b BoolRow h.1 k.1
-  one_answer Le operands a b h k = same_type types table a b BoolRow h.1 k.1
-  one_answer Eq operands a b h k = same_type types table a b BoolRow h.1 k.1
-  one_answer Ge operands a b h k = same_type types table a b BoolRow h.1 k.1
-  one_answer Gt operands a b h k = same_type types table a b BoolRow h.1 k.1
-  one_answer Not operands a b h k = same_type types table a b BoolRow h.1 k.1
-  one_answer PrintInt operands a b h k = same_type types table a b UnitRow h.1 k.1
-  one_answer Newline operands a b h k = same_type types table a b UnitRow h.1 k.1
-  one_answer ReadInt operands a b h k = same_type types table a b IntRow h.1 k.1
-  one_answer MakeBox operands a b h k =
-      let content : h.0 ≡ k.0 = first_of_one operands h.0 k.0 h.1 k.1 in
-      same_type types table a b (RefRow k.0) (h.2 ∙ ap (λ c. Some (RefRow c)) content) k.2
-  one_answer Unbox operands a b h k = content_of_ref a b (operand_of_one operands (RefRow a) (RefRow b) h k)
-  one_answer BoxSet operands a b h k = same_type types table a b UnitRow h.4 k.4
-  one_answer MakeVector operands a b h k =
-      let content : h.1 ≡ k.1 = second_of_two operands h.0 k.0 h.1 k.1 h.2 k.2 in
-      same_type types table a b (VectRow k.1) (h.4 ∙ ap (λ c. Some (VectRow c)) content) k.4
-  one_answer VectorRef operands a b h k =
-      let vector : h.0 ≡ k.0 = first_of_two operands h.0 k.0 h.1 k.1 h.2 k.2 in
-      content_of_vect a b (rows_agree h.0 k.0 (VectRow a) (VectRow b) vector h.3 k.3)
-  one_answer VectorSet operands a b h k = same_type types table a b UnitRow h.6 k.6
-  one_answer VectorLength operands a b h k = same_type types table a b IntRow h.2 k.2
+  one_answer operator operands a b h k =
+      both_some (operator_type types operator operands) a b (operator_found types table operator operands a h)
+      (operator_found types table operator operands b k)
 
   -- ---- functions and tuples
 

@@ -44,19 +44,18 @@ use Rattle.core_calc.proofs.CallsKeepTypes.{goes_on}
 int_wrapping_div_fits : (a b : ℤ) → FitsSigned w64 (int_wrapping_div w64 a b)
 int_wrapping_div_fits a b = read_sfits w64 (cast_unsigned w64 (int_div a b))
 
-abs_bounded : (b : ℤ) → FitsSigned w64 b → unsigned_abs b ≤ 2 ^ 63
-abs_bounded (pos n) h = omega arith
-abs_bounded (negsuc n) h = omega arith
-
-abs_positive : (b : ℤ) → int_eq b (pos 0) ≡ false → 0 < unsigned_abs b
-abs_positive (pos zero) e = absurd (cc)
-abs_positive (pos (suc n)) e = omega arith
-abs_positive (negsuc n) e = omega arith
+-- a divisor's absolute value
+divisor_abs : (b : ℤ) → FitsSigned w64 b → int_eq b (pos 0) ≡ false →
+    (0 < unsigned_abs b) × (unsigned_abs b ≤ 2 ^ 63)
+divisor_abs (pos zero) h e = absurd (cc)
+divisor_abs (pos (suc n)) h e = (omega arith, omega arith)
+divisor_abs (negsuc n) h e = (omega arith, omega arith)
 
 int_rem_fits : (a b : ℤ) → FitsSigned w64 b → int_eq b (pos 0) ≡ false → FitsSigned w64 (int_rem a b)
 int_rem_fits a b fits e =
-    let below = rem_below a b (abs_positive b e) in
-    let bounded = abs_bounded b fits in
+    let divisor = divisor_abs b fits e in
+    let below = rem_below a b divisor.0 in
+    let bounded = divisor.1 in
     fits_signed_from_abs w64 (int_rem a b) (omega arith)
 
 small_size : (n : ℕ) → n ≤ 1 → FitsSigned w64 (pos n)

@@ -84,8 +84,8 @@ module _ (types : TypeRows) (table : IsTypeTable types) where
       (ap₂ ◌&&◌ (ap is_int h.3) (ap is_int h.4))
       ∙ row_has_place row type i
 
-  operator_found : (operator : PrimOp) (operands : List ℕ) (type : ℕ) → OperatorHasType types operator operands type →
-      operator_type types operator operands ≡ Some type
+  pub operator_found : (operator : PrimOp) (operands : List ℕ) (type : ℕ) →
+      OperatorHasType types operator operands type → operator_type types operator operands ≡ Some type
   operator_found Add operands type h = two_integers_found IntRow operands type h.0 h.1
   operator_found Sub operands type h = two_integers_found IntRow operands type h.0 h.1
   operator_found Mul operands type h = two_integers_found IntRow operands type h.0 h.1

@@ -1,6 +1,6 @@
 -- Terms and values of the calculus. Names, types and labels are numbers: a type is a place in the table of types, a
 -- label one in the table of labels.
-use Rattle.std.specs.Prelude.{ℕ, suc, ◌+◌, ℤ, Bool, List, [], ◌∷◌, Option, Some, None}
+use Rattle.std.specs.Prelude.{ℕ, ℤ, Bool, List, [], ◌∷◌, Option, Some, None}
 use Rattle.grift_base.specs.declared.operators.PrimOp.{PrimOp}
 
 mutual
@@ -139,36 +139,3 @@ binding_names (BindingThen name bound rest) = name ∷ binding_names rest
 abbrev pub bound_values : Bindings → Option (List Value)
 bound_values NoBindings = Some []
 bound_values (BindingThen name bound rest) = both_in_front (as_value bound) (bound_values rest)
-
--- the number of nodes of a term; a value counts as one
-abbrev mutual
-  pub node_count : Term → ℕ
-  node_count (IntLit n) = 1
-  node_count (BoolLit b) = 1
-  node_count UnitLit = 1
-  node_count (Var name) = 1
-  node_count (Lambda parameters body type) = suc (node_count body)
-  node_count (Group members body) = suc (node_count_of_members members + node_count body)
-  node_count (Let bindings body) = suc (node_count_of_bindings bindings + node_count body)
-  node_count (Call function arguments) = suc (node_count function + node_count_of_all arguments)
-  node_count (Enter function arguments) = suc (node_count function + node_count_of_all arguments)
-  node_count (If condition on_true on_false) = suc (node_count condition + node_count on_true + node_count on_false)
-  node_count (Seq terms) = suc (node_count_of_all terms)
-  node_count (Cast term from to label) = suc (node_count term)
-  node_count (Proj term k) = suc (node_count term)
-  node_count (ProjDyn term k label) = suc (node_count term)
-  node_count (Tuple parts) = suc (node_count_of_all parts)
-  node_count (Prim operator operands) = suc (node_count_of_all operands)
-  node_count (ValueTerm v) = 1
-
-  pub node_count_of_all : Terms → ℕ
-  node_count_of_all NoTerms = 0
-  node_count_of_all (TermThen term rest) = node_count term + node_count_of_all rest
-
-  pub node_count_of_members : Members → ℕ
-  node_count_of_members NoMembers = 0
-  node_count_of_members (MemberThen name parameters body type rest) = node_count body + node_count_of_members rest
-
-  pub node_count_of_bindings : Bindings → ℕ
-  node_count_of_bindings NoBindings = 0
-  node_count_of_bindings (BindingThen name bound rest) = node_count bound + node_count_of_bindings rest

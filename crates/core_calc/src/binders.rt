@@ -50,16 +50,25 @@ pub fn add_binders(seen: &mut Names, term: &Core) -> Result<(), Untyped>
     }
 }
 
+// What is done along a list, from the front.
+macro_rules! along {
+    ($list:ident, $type:ident, $first:ident => $step:block) => {{
+        let mut left = $list;
+        while let $type::Cons($first, rest) = left {
+            $step
+            left = rest;
+        }
+    }};
+}
+
 // Adds the names that these terms bind.
 #[cycle(binders)]
 fn add_all_binders(seen: &mut Names, terms: &CoreList) -> Result<(), Untyped>
     ensures { Makes result seen.new (with_names seen.old (all_binders (terms_of terms.now))) }
 {
-    let mut left = terms;
-    while let CoreList::Cons(first, rest) = left {
+    along!(terms, CoreList, first => {
         add_binders(seen, first)?;
-        left = rest;
-    }
+    });
     Ok(())
 }
 
@@ -68,13 +77,11 @@ fn add_all_binders(seen: &mut Names, terms: &CoreList) -> Result<(), Untyped>
 fn add_member_binders(seen: &mut Names, members: &GroupMembers) -> Result<(), Untyped>
     ensures { Makes result seen.new (with_names seen.old (member_binders (members_of members.now))) }
 {
-    let mut left = members;
-    while let GroupMembers::Cons(first, rest) = left {
+    along!(members, GroupMembers, first => {
         seen.add(first.name)?;
         seen.add_all(first.params.as_slice())?;
         add_binders(seen, &first.body)?;
-        left = rest;
-    }
+    });
     Ok(())
 }
 
@@ -83,11 +90,9 @@ fn add_member_binders(seen: &mut Names, members: &GroupMembers) -> Result<(), Un
 fn add_binding_binders(seen: &mut Names, bindings: &CoreBindings) -> Result<(), Untyped>
     ensures { Makes result seen.new (with_names seen.old (binding_binders (bindings_of bindings.now))) }
 {
-    let mut left = bindings;
-    while let CoreBindings::Cons(first, rest) = left {
+    along!(bindings, CoreBindings, first => {
         seen.add(first.name)?;
         add_binders(seen, &first.value)?;
-        left = rest;
-    }
+    });
     Ok(())
 }

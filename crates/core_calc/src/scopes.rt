@@ -1,5 +1,8 @@
 // The names that a term binds, and those that are in scope with their types.
 
+ghost use Rattle.std.specs.Prelude.{◌≡◌};
+
+use crate::drop_fields;
 use crate::terms::VarId;
 use grift_base::lists;
 use grift_base::places::TypeId;
@@ -17,7 +20,6 @@ pub enum Untyped {
 }
 
 impl From<lists::OutOfMemory> for Untyped {
-    ghost use Rattle.std.specs.Prelude.{◌≡◌};
     ghost use Rattle.core_calc.specs.declared.scopes.Untyped.TheVariants.{OutOfMemory};
 
     ghost from_gives = { λ _ fault. fault ≡ OutOfMemory };
@@ -28,7 +30,6 @@ impl From<lists::OutOfMemory> for Untyped {
 }
 
 impl<T: Drop> From<AllocFailed<T>> for Untyped {
-    ghost use Rattle.std.specs.Prelude.{◌≡◌};
     ghost use Rattle.core_calc.specs.declared.scopes.Untyped.TheVariants.{OutOfMemory};
 
     ghost from_gives = { λ _ fault. fault ≡ OutOfMemory };
@@ -47,8 +48,7 @@ pub struct Names {
 // made of.
 impl Drop for Names {
     fn drop(self) {
-        let Names { names } = self;
-        drop(names);
+        drop_fields!(self, Names, names;)
     }
 }
 
@@ -61,7 +61,7 @@ impl Model for Names {
 }
 
 impl Names {
-    ghost use Rattle.std.specs.Prelude.{◌≡◌, [], ◌∷◌};
+    ghost use Rattle.std.specs.Prelude.{[], ◌∷◌};
     ghost use Rattle.core_calc.specs.Views.{names_of};
     ghost use Rattle.core_calc.specs.TypeOf.{Makes, with_names};
 
@@ -104,8 +104,7 @@ pub struct Scope {
 // By hand, so that what is proved of an exit at which a scope is alive has one call, and not all that a map is made of.
 impl Drop for Scope {
     fn drop(self) {
-        let Scope { names } = self;
-        drop(names);
+        drop_fields!(self, Scope, names;)
     }
 }
 
@@ -119,7 +118,7 @@ impl Model for Scope {
 }
 
 impl Scope {
-    ghost use Rattle.std.specs.Prelude.{◌≡◌, [], ◌∷◌, length, option_map, take};
+    ghost use Rattle.std.specs.Prelude.{[], ◌∷◌, length, option_map, take};
     ghost use Rattle.core_calc.specs.Substitution.{entry_of};
     ghost use Rattle.core_calc.specs.TypeOf.{Makes, context_of, with_bound};
 

@@ -6,6 +6,7 @@ ghost use Rattle.core_calc.specs.Terms.{term_list, member_list, binding_list, va
 ghost use Rattle.core_calc.specs.Views.{term_of, terms_of, member_of, members_of};
 ghost use Rattle.core_calc.specs.Views.{binding_of, bindings_of, value_of, values_of};
 
+use grift_base::drop_along;
 use grift_base::lists::{Items, OutOfMemory};
 use grift_base::operators::PrimOp;
 use grift_base::places::{LabelId, TypeId};
@@ -58,61 +59,43 @@ pub enum Core {
     Value(Value),
 }
 
+/// What a term or a value does when it is dropped: of the case that it is, each part that has a name here is dropped.
+/// The body of a `drop` calls this with the value and all cases of its type: those without parts, and those with parts.
+#[macro_export]
+macro_rules! drop_parts {
+    ($value:ident, $type:ident; $($bare:ident),*; $($case:ident($($part:tt),*)),*) => {
+        match $value {
+            $($type::$bare => {})*
+            $($type::$case($($part),*) => { $($crate::drop_part!($part);)* })*
+        }
+    };
+}
+
+/// Drops a part that has a name.
+#[macro_export]
+macro_rules! drop_part {
+    (_) => {};
+    ($part:ident) => {
+        drop($part)
+    };
+}
+
+/// What a struct does when it is dropped: these fields are dropped, and nothing is done for the others, which stand
+/// behind them.
+#[macro_export]
+macro_rules! drop_fields {
+    ($value:ident, $type:ident, $($field:ident),*; $($plain:ident),*) => {{
+        let $type { $($field,)* $($plain: _),* } = $value;
+        $(drop($field);)*
+    }};
+}
+
 impl Drop for Core {
     #[cycle(core)]
     fn drop(self) {
-        match self {
-            Core::Int(_) => {}
-            Core::Bool(_) => {}
-            Core::Unit => {}
-            Core::Var(_) => {}
-            Core::Lambda(a, b, _) => {
-                drop(a);
-                drop(b);
-            }
-            Core::Group(a, b) => {
-                drop(a);
-                drop(b);
-            }
-            Core::Let(a, b) => {
-                drop(a);
-                drop(b);
-            }
-            Core::Call(a, b) => {
-                drop(a);
-                drop(b);
-            }
-            Core::Enter(a, b) => {
-                drop(a);
-                drop(b);
-            }
-            Core::If(a, b, c) => {
-                drop(a);
-                drop(b);
-                drop(c);
-            }
-            Core::Seq(a) => {
-                drop(a);
-            }
-            Core::Cast(a, _, _, _) => {
-                drop(a);
-            }
-            Core::Proj(a, _) => {
-                drop(a);
-            }
-            Core::ProjDyn(a, _, _) => {
-                drop(a);
-            }
-            Core::Tuple(a) => {
-                drop(a);
-            }
-            Core::Prim(_, b) => {
-                drop(b);
-            }
-            Core::Value(a) => {
-                drop(a);
-            }
-        }
+        drop_parts!(self, Core; Unit; Int(_), Bool(_), Var(_), Lambda(a, b, _), Group(a, b), Let(a, b),
+            Call(a, b), Enter(a, b), If(a, b, c), Seq(a), Cast(a, _, _, _), Proj(a, _), ProjDyn(a, _, _),
+            Tuple(a), Prim(_, b), Value(a))
     }
 }
 
@@ -209,28 +192,8 @@ pub enum Value {
 impl Drop for Value {
     #[cycle(core)]
     fn drop(self) {
-        match self {
-            Value::Int(_) => {}
-            Value::Bool(_) => {}
-            Value::Unit => {}
-            Value::Fun(a, b, _) => {
-                drop(a);
-                drop(b);
-            }
-            Value::GroupMember(a, _) => {
-                drop(a);
-            }
-            Value::Tuple(a) => {
-                drop(a);
-            }
-            Value::Loc(_, _) => {}
-            Value::Wrap(a, _, _, _) => {
-                drop(a);
-            }
-            Value::Inject(a, _) => {
-                drop(a);
-            }
-        }
+        drop_parts!(self, Value; Unit; Int(_), Bool(_), Fun(a, b, _), GroupMember(a, _), Tuple(a), Loc(_, _),
+            Wrap(a, _, _, _), Inject(a, _))
     }
 }
 
@@ -248,48 +211,28 @@ pub enum Values {
 impl Drop for CoreList {
     #[cycle(core)]
     fn drop(mut self) {
-        loop {
-            match self {
-                CoreList::Nil => return,
-                CoreList::Cons(_, rest) => self = Box::into_inner(rest),
-            }
-        }
+        drop_along!(self, CoreList)
     }
 }
 
 impl Drop for GroupMembers {
     #[cycle(core)]
     fn drop(mut self) {
-        loop {
-            match self {
-                GroupMembers::Nil => return,
-                GroupMembers::Cons(_, rest) => self = Box::into_inner(rest),
-            }
-        }
+        drop_along!(self, GroupMembers)
     }
 }
 
 impl Drop for CoreBindings {
     #[cycle(core)]
     fn drop(mut self) {
-        loop {
-            match self {
-                CoreBindings::Nil => return,
-                CoreBindings::Cons(_, rest) => self = Box::into_inner(rest),
-            }
-        }
+        drop_along!(self, CoreBindings)
     }
 }
 
 impl Drop for Values {
     #[cycle(core)]
     fn drop(mut self) {
-        loop {
-            match self {
-                Values::Nil => return,
-                Values::Cons(_, rest) => self = Box::into_inner(rest),
-            }
-        }
+        drop_along!(self, Values)
     }
 }
 

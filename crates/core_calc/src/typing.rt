@@ -45,6 +45,9 @@ pub fn typed(alloc: Global, core: &Core, types: &TypeTable) -> Result<Option<Typ
     }
 }
 
+// The type that was found, or why there is none.
+type FoundType = Result<TypeId, Untyped>;
+
 // The type of a term that binds each name once.
 fn program_type(alloc: Global, types: &TypeTable, core: &Core) -> Result<TypeId, Untyped>
     ensures { Finds result (λ t. t.0) (program_type types.now (term_of core.now)) }
@@ -58,12 +61,7 @@ fn program_type(alloc: Global, types: &TypeTable, core: &Core) -> Result<TypeId,
 
 // The type of a term where these names are in scope.
 #[cycle(typing)]
-fn type_of(
-    alloc: Global,
-    types: &TypeTable,
-    scope: &mut Scope,
-    term: &Core,
-) -> Result<TypeId, Untyped>
+fn type_of(alloc: Global, types: &TypeTable, scope: &mut Scope, term: &Core) -> FoundType
     ensures found { Finds result (λ t. t.0) (type_of types.now scope.old (term_of term.now)) }
     ensures kept { OnOk result (scope.new ≡ scope.old) }
 {
@@ -91,12 +89,7 @@ fn type_of(
 
 // The type of a group; no other form comes here.
 #[cycle(typing)]
-fn group(
-    alloc: Global,
-    types: &TypeTable,
-    scope: &mut Scope,
-    term: &Core,
-) -> Result<TypeId, Untyped>
+fn group(alloc: Global, types: &TypeTable, scope: &mut Scope, term: &Core) -> FoundType
     ensures found { Finds result (λ t. t.0) (type_of types.now scope.old (term_of term.now)) }
     ensures kept { OnOk result (scope.new ≡ scope.old) }
 {
@@ -114,12 +107,7 @@ fn group(
 
 // The type of a form that joins several terms and is no group; no other form comes here.
 #[cycle(typing)]
-fn joined(
-    alloc: Global,
-    types: &TypeTable,
-    scope: &mut Scope,
-    term: &Core,
-) -> Result<TypeId, Untyped>
+fn joined(alloc: Global, types: &TypeTable, scope: &mut Scope, term: &Core) -> FoundType
     ensures found { Finds result (λ t. t.0) (type_of types.now scope.old (term_of term.now)) }
     ensures kept { OnOk result (scope.new ≡ scope.old) }
 {
@@ -145,12 +133,7 @@ fn joined(
 
 // The type of the last of these terms.
 #[cycle(typing)]
-fn sequence(
-    alloc: Global,
-    types: &TypeTable,
-    scope: &mut Scope,
-    terms: &CoreList,
-) -> Result<TypeId, Untyped>
+fn sequence(alloc: Global, types: &TypeTable, scope: &mut Scope, terms: &CoreList) -> FoundType
     ensures found { Finds result (λ t. t.0) (type_of types.now scope.old (Seq (terms_of terms.now))) }
     ensures kept { OnOk result (scope.new ≡ scope.old) }
 {
@@ -167,7 +150,7 @@ fn cast(
     term: &Core,
     from: TypeId,
     to: TypeId,
-) -> Result<TypeId, Untyped>
+) -> FoundType
     ensures found { Finds result (λ t. t.0) (and_then (type_of types.now scope.old (term_of term.now))
         (λ given. cast_type types.now given from.0 to.0)) }
     ensures kept { OnOk result (scope.new ≡ scope.old) }
@@ -178,13 +161,7 @@ fn cast(
 
 // The type of a tuple's part.
 #[cycle(typing)]
-fn part(
-    alloc: Global,
-    types: &TypeTable,
-    scope: &mut Scope,
-    term: &Core,
-    k: i64,
-) -> Result<TypeId, Untyped>
+fn part(alloc: Global, types: &TypeTable, scope: &mut Scope, term: &Core, k: i64) -> FoundType
     ensures found { Finds result (λ t. t.0) (type_of types.now scope.old (Proj (term_of term.now) k)) }
     ensures kept { OnOk result (scope.new ≡ scope.old) }
 {
@@ -194,12 +171,7 @@ fn part(
 
 // The type of a part of the tuple that Dyn holds.
 #[cycle(typing)]
-fn dyn_part(
-    alloc: Global,
-    types: &TypeTable,
-    scope: &mut Scope,
-    term: &Core,
-) -> Result<TypeId, Untyped>
+fn dyn_part(alloc: Global, types: &TypeTable, scope: &mut Scope, term: &Core) -> FoundType
     ensures found { Finds result (λ t. t.0) (and_then (type_of types.now scope.old (term_of term.now))
         (λ given. dyn_part_type types.now given)) }
     ensures kept { OnOk result (scope.new ≡ scope.old) }
@@ -210,12 +182,7 @@ fn dyn_part(
 
 // The type of a tuple of these parts.
 #[cycle(typing)]
-fn tuple(
-    alloc: Global,
-    types: &TypeTable,
-    scope: &mut Scope,
-    parts: &CoreList,
-) -> Result<TypeId, Untyped>
+fn tuple(alloc: Global, types: &TypeTable, scope: &mut Scope, parts: &CoreList) -> FoundType
     ensures found { Finds result (λ t. t.0) (type_of types.now scope.old (Tuple (terms_of parts.now))) }
     ensures kept { OnOk result (scope.new ≡ scope.old) }
 {
@@ -231,7 +198,7 @@ fn operation(
     scope: &mut Scope,
     operator: PrimOp,
     operands: &CoreList,
-) -> Result<TypeId, Untyped>
+) -> FoundType
     ensures found { Finds result (λ t. t.0) (type_of types.now scope.old (Prim operator (terms_of operands.now))) }
     ensures kept { OnOk result (scope.new ≡ scope.old) }
 {
@@ -248,7 +215,7 @@ fn lambda(
     params: &VarIds,
     body: &Core,
     written: TypeId,
-) -> Result<TypeId, Untyped>
+) -> FoundType
     ensures found { Finds result (λ t. t.0) (function_type types.now scope.old (names_of params.now) written.0
         (λ inner. type_of types.now inner (term_of body.now))) }
     ensures kept { OnOk result (scope.new ≡ scope.old) }
@@ -269,7 +236,7 @@ fn within(
     scope: &mut Scope,
     bound: &[(VarId, TypeId)],
     body: &Core,
-) -> Result<TypeId, Untyped>
+) -> FoundType
     ensures found { Finds result (λ t. t.0) (within types.now scope.old (context_of bound.now)
         (λ inner. type_of types.now inner (term_of body.now))) }
     ensures kept { OnOk result (scope.new ≡ scope.old) }

@@ -1,11 +1,11 @@
 // Programs of numbered procedures.
 
 ghost use Rattle.std.specs.Prelude.{◌≡◌};
-ghost use Rattle.flat_ir.specs.Closed.{is_closed};
-ghost use Rattle.flat_ir.specs.Views.{procs_of};
+ghost use Rattle.flat_ir.specs.{Closed.{is_closed}, Views.{procs_of}};
 
 use crate::closing::{each_closed, takes_nothing};
 use crate::code::FlatBody;
+use core_calc::drop_fields;
 use grift_base::lists::Items;
 use grift_base::places::TypeId;
 
@@ -22,14 +22,7 @@ pub struct FlatProc {
 // By hand, so that each place where one goes is one call.
 impl Drop for FlatProc {
     fn drop(self) {
-        let FlatProc {
-            params: _,
-            captured: _,
-            group: _,
-            place: _,
-            body,
-        } = self;
-        drop(body);
+        drop_fields!(self, FlatProc, body; params, captured, group, place)
     }
 }
 
@@ -46,12 +39,7 @@ pub struct FlatProgram {
 // By hand, so that each place where one goes is one call.
 impl Drop for FlatProgram {
     fn drop(self) {
-        let FlatProgram {
-            procs,
-            entry: _,
-            answer: _,
-        } = self;
-        drop(procs);
+        drop_fields!(self, FlatProgram, procs; entry, answer)
     }
 }
 

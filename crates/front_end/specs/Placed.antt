@@ -5,10 +5,9 @@ use Rattle.surface_trees.specs.Trees.{Expr, ExprNode, LambdaExpr, Exprs, LetBind
 use Rattle.surface_trees.specs.Trees.{BoolNode, UnitNode, NameNode, LambdaNode, CallNode, LetNode, LetrecNode, IfNode}
 use Rattle.surface_trees.specs.Trees.{BeginNode, AscribeNode, TupleNode, ProjNode, PrimNode, LambdaAt, NoExprs}
 use Rattle.surface_trees.specs.Trees.{ExprThen, NoLets, LetThen, NoLetrecs, LetrecThen}
-use Rattle.core_calc.specs.Terms.{Term, Terms, Members, Bindings, IntLit, BoolLit, UnitLit, Var, Lambda, Group, Let}
-use Rattle.core_calc.specs.Terms.{Call}
-use Rattle.core_calc.specs.Terms.{Enter, If, Seq, Cast, Proj, ProjDyn, Tuple, Prim, ValueTerm, NoTerms, TermThen}
-use Rattle.core_calc.specs.Terms.{NoMembers, MemberThen, NoBindings, BindingThen}
+use Rattle.core_calc.specs.Terms.{Term, Terms, Members, Bindings, Lambda, Group, Let, Call, Enter, If, Seq, Cast}
+use Rattle.core_calc.specs.Terms.{Proj, ProjDyn, Tuple, Prim, NoTerms, TermThen, NoMembers, MemberThen, NoBindings}
+use Rattle.core_calc.specs.Terms.{BindingThen}
 use Rattle.cast_insert.specs.Making.{Entry, CastFrom, PartOf, Makes, Typed, Work}
 use Rattle.cast_insert.specs.Elaboration.{elaborate_program}
 
@@ -24,10 +23,6 @@ module _ (allowed : PrimOp → Bool) where
   -- each operator of a term is allowed, and each of its casts and parts of Dyn is in the list
   abbrev mutual
     pub IsPlaced : List Entry → Term → Type 0
-    IsPlaced casts (IntLit n) = Unit {0}
-    IsPlaced casts (BoolLit b) = Unit {0}
-    IsPlaced casts UnitLit = Unit {0}
-    IsPlaced casts (Var name) = Unit {0}
     IsPlaced casts (Lambda parameters body type) = IsPlaced casts body
     IsPlaced casts (Group members body) = AreMembersPlaced casts members × IsPlaced casts body
     IsPlaced casts (Let bindings body) = AreBindingsPlaced casts bindings × IsPlaced casts body
@@ -41,7 +36,7 @@ module _ (allowed : PrimOp → Bool) where
     IsPlaced casts (ProjDyn term k label) = IsPlaced casts term × HasPart casts label k
     IsPlaced casts (Tuple parts) = ArePlaced casts parts
     IsPlaced casts (Prim operator operands) = (allowed operator ≡ true) × ArePlaced casts operands
-    IsPlaced casts (ValueTerm v) = Unit {0}
+    IsPlaced casts _ = Unit {0}
 
     pub ArePlaced : List Entry → Terms → Type 0
     ArePlaced casts NoTerms = Unit {0}

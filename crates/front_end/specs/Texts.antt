@@ -15,6 +15,7 @@ use Rattle.surface_syntax.specs.TopWalk.{walk_program}
 use Rattle.surface_syntax.specs.Programs.{AreExpr, AreNoProgram}
 use Rattle.cast_insert.specs.Elaboration.{elaborate_program}
 use Rattle.cast_insert.specs.Outcomes.{Outcome, Elaborates, IsRefused, outcome_of}
+use Rattle.cast_insert.specs.Programs.{IsSource}
 
 -- the text reads as the forms of a program, and this is its expression
 pub record ReadsAs (text : List ℕ) (program : Expr) : Type 0 where
@@ -55,3 +56,20 @@ HasOutcome text (IsRefused kind place) =
 abbrev pub IsFault : List ℕ → FrontFault → Type 0
 IsFault text (Refused r) = HasOutcome text (IsRefused r.kind r.pos)
 IsFault text OutOfMemory = Unit {0}
+
+-- ---- laws of all texts
+
+-- each text has an outcome
+abbrev pub EachHasOutcome : Type 0
+EachHasOutcome = (text : List ℕ) → (outcome : Outcome) × HasOutcome text outcome
+
+-- and no more than one
+abbrev pub OutcomesAreOne : Type 0
+OutcomesAreOne =
+    (text : List ℕ) (first second : Outcome) → HasOutcome text first → HasOutcome text second → first ≡ second
+
+-- the program that a text reads as can be elaborated
+abbrev pub ProgramsAreSources : Type 0
+ProgramsAreSources =
+    (text : List ℕ) (datums : Datums) (program : Expr) → Reads text datums → AreExpr (all_marked datums) program →
+    IsSource program

@@ -1,21 +1,16 @@
 // From the bytes of a source to its program with all casts.
 #![tactic(auto)]
 
-ghost use Rattle.std.specs.Prelude.{◌≡◌, ◌≤◌, ℕ, List, IfOk, IfErr, length};
+ghost use Rattle.std.specs.Prelude.{◌≡◌, ◌≤◌, IfOk, IfErr, length};
 ghost use Rattle.grift_base.specs.Sizes.{source_limit};
 ghost use Rattle.core_calc.specs.Typing.{ProgramTermHasType};
 ghost use Rattle.core_calc.specs.Views.{term_of};
-ghost use Rattle.sexpr_reader.specs.Datum.{Datums};
-ghost use Rattle.sexpr_reader.specs.Grammar.{Reads};
-ghost use Rattle.surface_syntax.specs.Marked.{all_marked};
-ghost use Rattle.surface_syntax.specs.Programs.{AreExpr};
-ghost use Rattle.surface_trees.specs.Trees.{Expr};
 ghost use Rattle.surface_trees.specs.Views.{expr_of};
 ghost use Rattle.cast_insert.specs.Elaboration.{elaborate_program};
-ghost use Rattle.cast_insert.specs.Outcomes.{Outcome, Elaborates, outcome_of};
-ghost use Rattle.cast_insert.specs.Programs.{IsSource};
+ghost use Rattle.cast_insert.specs.Outcomes.{Elaborates, outcome_of};
 ghost use Rattle.cast_insert.specs.Views.{entries_of};
 ghost use Rattle.front_end.specs.Texts.{HasOutcome, IsFault, IsProgramOf};
+ghost use Rattle.front_end.specs.Texts.{EachHasOutcome, OutcomesAreOne, ProgramsAreSources};
 ghost use Rattle.front_end.specs.Placed.{PlacesAll};
 
 use cast_insert::insertion::{Elab, insert};
@@ -62,15 +57,13 @@ pub fn elaborate_text(alloc: Global, text: &[u8]) -> Result<Elaborated, FrontFau
 
 /// What `parse_program` answers on the s-expressions of a text meets the condition that `insert` has on its program.
 pub fn programs_that_are_read_can_be_elaborated()
-    ensures { (text : List ℕ) (datums : Datums) (program : Expr) → Reads text datums
-        → AreExpr (all_marked datums) program → IsSource program }
+    ensures { ProgramsAreSources }
 {}
 
 /// Each text has an outcome, and no more than one: it is elaborated in one way, or refused for one fault at one place.
 pub fn a_text_has_one_outcome()
-    ensures some { (text : List ℕ) → (outcome : Outcome) × HasOutcome text outcome }
-    ensures one { (text : List ℕ) (first second : Outcome) → HasOutcome text first → HasOutcome text second
-        → first ≡ second }
+    ensures some { EachHasOutcome }
+    ensures one { OutcomesAreOne }
 {}
 
 /// What the elaboration makes of a program has an operator only where the program has it, and a cast, or a part of what

@@ -1,5 +1,5 @@
 -- A number that is read has 64 bits.
-use Rattle.std.proofs.Common.{◌≡◌, ◌<◌, ◌^◌, Bool, true, false, Some, None, ℤ, pos, negsuc, refl, subst, arith}
+use Rattle.std.proofs.Common.{◌≡◌, ◌<◌, ◌^◌, Bool, true, false, Some, None, ℕ, ℤ, pos, negsuc, refl, subst, arith}
 use Rattle.std.specs.Prelude.{cond, nat_lt, FitsSigned}
 use Rattle.std.specs.Int.{w64}
 use Rattle.std.proofs.lemmas.Bool.{ltb-true}
@@ -14,23 +14,18 @@ same_number a b e = cc
 no_number : (n : ℤ) → None ≡ Some n → FitsSigned w64 n
 no_number n e = absurd (let z : ⊥ = cc in z)
 
+-- what is read only where a natural number is below 2 ^ 63, and fits then, fits
+below_fits : (m : ℕ) (z n : ℤ) → (m < 2 ^ 63 → FitsSigned w64 z) → cond (nat_lt m (2 ^ 63)) (Some z) None ≡ Some n
+    → FitsSigned w64 n
+below_fits m z n fits = at (nat_lt m (2 ^ 63)) refl
+  where
+    at : (b : Bool) → nat_lt m (2 ^ 63) ≡ b → cond b (Some z) None ≡ Some n → FitsSigned w64 n
+    at true f e = subst (λ x. FitsSigned w64 x) (same_number z n e) (fits (ltb-true m (2 ^ 63) f))
+    at false f e = no_number n e
+
 in_word_fits : (z n : ℤ) → in_word z ≡ Some n → FitsSigned w64 n
-in_word_fits (pos m) n e = at (nat_lt m (2 ^ 63)) refl e
-  where
-    at : (b : Bool) → nat_lt m (2 ^ 63) ≡ b → cond b (Some (pos m)) None ≡ Some n → FitsSigned w64 n
-    at true f e =
-        let below : m < 2 ^ 63 = ltb-true m (2 ^ 63) f in
-        let fits : FitsSigned w64 (pos m) = omega arith in
-        subst (λ x. FitsSigned w64 x) (same_number (pos m) n e) fits
-    at false f e = no_number n e
-in_word_fits (negsuc m) n e = at (nat_lt m (2 ^ 63)) refl e
-  where
-    at : (b : Bool) → nat_lt m (2 ^ 63) ≡ b → cond b (Some (negsuc m)) None ≡ Some n → FitsSigned w64 n
-    at true f e =
-        let below : m < 2 ^ 63 = ltb-true m (2 ^ 63) f in
-        let fits : FitsSigned w64 (negsuc m) = omega arith in
-        subst (λ x. FitsSigned w64 x) (same_number (negsuc m) n e) fits
-    at false f e = no_number n e
+in_word_fits (pos m) n e = below_fits m (pos m) n (λ below. omega arith) e
+in_word_fits (negsuc m) n e = below_fits m (negsuc m) n (λ below. omega arith) e
 
 -- the number that stands next in the input is a word with a sign
 pub next_number_fits : (w : WorldState) (n : ℤ) → next_number w ≡ Some n → FitsSigned w64 n

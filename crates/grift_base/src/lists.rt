@@ -161,3 +161,18 @@ impl<T: Hash> Hash for Items<T> {
         self.items.hash(state);
     }
 }
+
+/// What a list does when it is dropped: it is taken apart in a loop, since it may be longer than the process's stack is
+/// deep. The body of a `drop` calls this with the list and its type, whose cases are `Nil` and `Cons` with the rest in
+/// a box.
+#[macro_export]
+macro_rules! drop_along {
+    ($list:ident, $type:ident) => {
+        loop {
+            match $list {
+                $type::Nil => return,
+                $type::Cons(_, rest) => $list = Box::into_inner(rest),
+            }
+        }
+    };
+}

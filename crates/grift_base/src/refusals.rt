@@ -116,7 +116,6 @@ pub enum FrontFault {
 }
 
 impl From<lists::OutOfMemory> for FrontFault {
-    ghost use Rattle.std.specs.Prelude.{◌≡◌};
     ghost use Rattle.grift_base.specs.declared.refusals.FrontFault.TheVariants.{OutOfMemory};
 
     ghost from_gives = { λ _ fault. fault ≡ OutOfMemory };

@@ -27,32 +27,29 @@ pub enum Trap {
 }
 
 impl Trap {
-    // The number and the name of this trap.
-    fn row(self) -> (u8, &'static str)
-        ensures number { result.0 ≡ trap_number self }
-        ensures text { result.1.now ≡ trap_text self }
-    {
-        match self {
-            Trap::ZeroDivisor => (1, "zero-divisor"),
-            Trap::Index => (2, "index"),
-            Trap::Length => (3, "length"),
-            Trap::Input => (4, "input"),
-        }
-    }
-
     /// The number by which a program tells this trap to its environment.
     pub fn number(self) -> u8
         ensures value { result ≡ trap_number self }
         ensures call { traps result ≡ Trapped self }
     {
-        self.row().0
+        match self {
+            Trap::ZeroDivisor => 1,
+            Trap::Index => 2,
+            Trap::Length => 3,
+            Trap::Input => 4,
+        }
     }
 
     /// The name of this trap, as the line for the user has it.
     pub fn text(self) -> &'static str
         ensures { result.now ≡ trap_text self }
     {
-        self.row().1
+        match self {
+            Trap::ZeroDivisor => "zero-divisor",
+            Trap::Index => "index",
+            Trap::Length => "length",
+            Trap::Input => "input",
+        }
     }
 }
 
@@ -81,15 +78,7 @@ impl AnswerKind {
         ensures value { result ≡ answer_kind_number self }
         ensures call { ends result 0 ≡ Ended (record { kind = self; word = pos 0 }) }
     {
-        match self {
-            AnswerKind::Int => 0,
-            AnswerKind::Bool => 1,
-            AnswerKind::Unit => 2,
-            AnswerKind::Function => 3,
-            AnswerKind::Tuple => 4,
-            AnswerKind::Boxed => 5,
-            AnswerKind::Vector => 6,
-        }
+        self as u8
     }
 }
 

@@ -44,12 +44,12 @@ use Rattle.grift_cli.specs.Answers.{image_fault}
 use Rattle.grift_cli.specs.Calls.{CallSeen, PutsNothing, File, AreLoaded, AsksNothing, LoadsFiles, HasLoaded}
 use Rattle.grift_cli.specs.Calls.{file_of, input_of, source_file}
 use Rattle.grift_cli.specs.Auditing.{IsAuditFile, IsNeverBlamed, PutsAudit}
-use Rattle.grift_cli.specs.Checking.{ElaboratesFile, PutsLines, checked_text}
+use Rattle.grift_cli.specs.Checking.{ElaboratesFile, HasElaboration, PutsLines, checked_text}
 use Rattle.grift_cli.specs.Commands.{Command, Run, Exec, Check, Audit, Casts, Model, IsCommand, IsGen}
 use Rattle.grift_cli.specs.Generating.{Generates, HasGenerated}
 use Rattle.grift_cli.specs.Listing.{IsImageOf, IsShownFile, PutsShown, Shows, command_by, seen_by}
 use Rattle.grift_cli.specs.Modelling.{IsModelFile, Models}
-use Rattle.grift_cli.specs.Outcome.{IsCompiled, IsImageFile, IsNoImageFile, IsOfSource, Says}
+use Rattle.grift_cli.specs.Outcome.{IsCompiled, IsNoImageFile, IsOfSource, RunsFile, Says}
 use Rattle.grift_cli.specs.Reporting.{load_report, source_report, image_report}
 use Rattle.grift_cli.specs.Running.{RunsWell, Runs, RunsInSpace, Executes}
 use Rattle.grift_cli.specs.Runs.{run_within, printed, verdict_of_run, HasEndedBy, ComesTo}
@@ -317,29 +317,13 @@ says_image_fault call file limits input_name bytes input ImageMemory l p f =
     says_no_memory call (Exec file limits input_name) bytes input l p
 
 -- the image that the file holds is run
-pub says_exec : (call : CallSeen) (limits : Limits) (image input : List ℕ) (report : Report)
-    → IsImageFile call limits image input → Executes limits image input call.out report → Says report call
-says_exec call limits image input (HasVerdict verdict) i x = inr (inl (record {
-  limits = limits;
-  image = image;
-  input = input;
-  image_file = i;
-  verdict_is = x.0;
-  output_put = x.1;
-}))
-says_exec call limits image input (HasFault fault) i x = record {
-  limits = limits;
-  image = image;
-  input = input;
-  image_file = i;
-  fault_is = x.0;
-  output_put = x.1;
-}
-says_exec call limits image input PutFailed i x =
-    inr (inl (record { limits = limits; image = image; input = input; image_file = i; fails = x }))
-says_exec call limits image input NoMemory i x =
-    inr (inr (inr (inl (record { limits = limits; image = image; input = input; image_file = i; stops = x }))))
-says_exec call limits image input report i x = absurd x.0
+pub says_exec : (call : CallSeen) (file : RunsFile call) (report : Report)
+    → Executes file.limits file.image file.input call.out report → Says report call
+says_exec call file (HasVerdict verdict) x = inr (inl (record { file = file; verdict_is = x.0; output_put = x.1 }))
+says_exec call file (HasFault fault) x = record { file = file; fault_is = x.0; output_put = x.1 }
+says_exec call file PutFailed x = inr (inl (record { file = file; fails = x }))
+says_exec call file NoMemory x = inr (inr (inr (inl (record { file = file; stops = x }))))
+says_exec call file report x = absurd x.0
 
 -- ---- a source that is elaborated
 
@@ -422,6 +406,19 @@ says_shown call bytes report s x = absurd x
 
 -- ---- a source of which an aspect is told
 
+-- what was made of the source is what its text is elaborated to
+abbrev has_elaboration : (text : List ℕ) (types : TypeRows) (elab : Elab)
+    → HasOutcome text (Elaborates (term_of elab.core) elab.ty.0 types elab.labels (entries_of elab.casts))
+    → HasElaboration text
+has_elaboration text types elab e = record {
+  term = term_of elab.core;
+  type = elab.ty.0;
+  types = types;
+  labels = elab.labels;
+  casts = entries_of elab.casts;
+  elaborated = e;
+}
+
 -- what is told of the source is put
 pub says_aspect : (call : CallSeen) (aspect : Aspect) (file text : List ℕ) (types : TypeRows) (elab : Elab)
     (report : Report) → HasLoaded call (command_about aspect file) text []
@@ -432,12 +429,7 @@ says_aspect call Summary file text types elab report l e none x =
       file = file;
       text = text;
       loaded = l;
-      term = term_of elab.core;
-      type = elab.ty.0;
-      types = types;
-      labels = elab.labels;
-      casts = entries_of elab.casts;
-      elaborated = e;
+      source = has_elaboration text types elab e;
       lines_are = refl;
       no_image = none;
     }) x
@@ -449,15 +441,7 @@ says_aspect call Coercions file text types elab report l e none x =
       command = Casts file;
       text = text;
       loaded = l;
-      shows = record {
-        term = term_of elab.core;
-        type = elab.ty.0;
-        types = types;
-        labels = elab.labels;
-        casts = entries_of elab.casts;
-        elaborated = e;
-        lines_are = refl;
-      };
+      shows = record { source = has_elaboration text types elab e; lines_are = refl };
       no_image = none;
     }) x
 

@@ -19,18 +19,22 @@ abbrev pub checked_text : TypeRows → ℕ → List Entry → List ℕ
 checked_text types type casts =
     codes "type " ++ type_text types type ++ codes "\ncasts " ++ decimal (length casts) ++ codes "\n"
 
--- the file of a check holds a source whose elaboration has these two lines; no image is put
-pub record ElaboratesFile (call : CallSeen) (lines : List ℕ) : Type 0 where
-  pub file : List ℕ
-  pub text : List ℕ
-  pub loaded : HasLoaded call (Check file) text []
+-- the text is elaborated, to this term of this type over these types, with these labels and casts
+pub record HasElaboration (text : List ℕ) : Type 0 where
   pub term : Term
   pub type : ℕ
   pub types : TypeRows
   pub labels : List Pos
   pub casts : List Entry
   pub elaborated : HasOutcome text (Elaborates term type types labels casts)
-  pub lines_are : lines ≡ checked_text types type casts
+
+-- the file of a check holds a source whose elaboration has these two lines; no image is put
+pub record ElaboratesFile (call : CallSeen) (lines : List ℕ) : Type 0 where
+  pub file : List ℕ
+  pub text : List ℕ
+  pub loaded : HasLoaded call (Check file) text []
+  pub source : HasElaboration text
+  pub lines_are : lines ≡ checked_text source.types source.type source.casts
   pub no_image : Untouched call.img
 
 -- both lines were put whole

@@ -1,20 +1,15 @@
 -- What `casts`, `code` and `image` put, and what they come to: a source's casts, its code, its image.
 use Rattle.std.specs.Prelude.{ℕ, ◌≡◌, ◌≢◌, List, []}
 use Rattle.grift_base.specs.Sink.{SinkSeen, Untouched, Takes, Breaks}
-use Rattle.grift_base.specs.Types.{TypeRows}
-use Rattle.grift_base.specs.declared.places.Pos.{Pos}
 use Rattle.rv_machine.specs.Image.{IsImage}
 use Rattle.core_calc.specs.Calculus.{Program}
-use Rattle.core_calc.specs.Terms.{Term}
-use Rattle.cast_insert.specs.Making.{Entry}
-use Rattle.cast_insert.specs.Outcomes.{Elaborates}
-use Rattle.front_end.specs.Texts.{HasOutcome}
 use Rattle.compile_driver.specs.Bounds.{KeepsAccount}
 use Rattle.compile_driver.specs.Compiling.{HasProgram, FollowsProgram}
 use Rattle.listing.specs.CastLines.{cast_listing}
 use Rattle.listing.specs.CodeLines.{code_listing}
 use Rattle.grift_cli.specs.Commands.{Command, Casts, Code, ImageOf}
 use Rattle.grift_cli.specs.Calls.{CallSeen, HasLoaded}
+use Rattle.grift_cli.specs.Checking.{HasElaboration}
 use Rattle.grift_cli.specs.declared.listings.View.{View}
 use Rattle.grift_cli.specs.declared.listings.View.TheVariants.{Listing, Bytes}
 use Rattle.grift_cli.specs.declared.reports.Report.{Report}
@@ -24,13 +19,8 @@ use Rattle.grift_cli.specs.declared.reports.Report.TheVariants.{Shown, PutFailed
 
 -- the text is elaborated, and these are the lines of its casts
 pub record ListsCasts (text lines : List ℕ) : Type 0 where
-  pub term : Term
-  pub type : ℕ
-  pub types : TypeRows
-  pub labels : List Pos
-  pub casts : List Entry
-  pub elaborated : HasOutcome text (Elaborates term type types labels casts)
-  pub lines_are : lines ≡ cast_listing types labels casts
+  pub source : HasElaboration text
+  pub lines_are : lines ≡ cast_listing source.types source.labels source.casts
 
 -- the text is the source of a program, whose term is a program term, and which this image follows, within the
 -- program's account

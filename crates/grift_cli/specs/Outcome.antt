@@ -150,39 +150,34 @@ pub record IsNoImageFile (call : CallSeen) (fault : BadImage) : Type 0 where
   pub first : IsFirstFault bytes (image_fault fault)
   pub nothing : PutsNothing call
 
--- the verdict of its run is this one, and what it prints was put whole
-pub record HasExecuted (call : CallSeen) (verdict : Verdict) : Type 0 where
+-- the call runs the image of a file, within these limits on this input
+pub record RunsFile (call : CallSeen) : Type 0 where
   pub limits : Limits
   pub image : List ℕ
   pub input : List ℕ
   pub image_file : IsImageFile call limits image input
-  pub verdict_is : verdict_of_run (run_within limits image input).1 ≡ Some verdict
-  pub output_put : Takes (printed limits image input) call.out
+
+-- the verdict of its run is this one, and what it prints was put whole
+pub record HasExecuted (call : CallSeen) (verdict : Verdict) : Type 0 where
+  pub file : RunsFile call
+  pub verdict_is : verdict_of_run (run_within file.limits file.image file.input).1 ≡ Some verdict
+  pub output_put : Takes (printed file.limits file.image file.input) call.out
 
 -- its run has gone wrong by this fault, and what it prints was put whole
 pub record HasGoneWrong (call : CallSeen) (fault : MachineFault) : Type 0 where
-  pub limits : Limits
-  pub image : List ℕ
-  pub input : List ℕ
-  pub image_file : IsImageFile call limits image input
-  pub fault_is : fault_of_run (run_within limits image input).1 ≡ Some fault
-  pub output_put : Takes (printed limits image input) call.out
+  pub file : RunsFile call
+  pub fault_is : fault_of_run (run_within file.limits file.image file.input).1 ≡ Some fault
+  pub output_put : Takes (printed file.limits file.image file.input) call.out
 
 -- a put of what it prints failed
 pub record FailsToPutOutput (call : CallSeen) : Type 0 where
-  pub limits : Limits
-  pub image : List ℕ
-  pub input : List ℕ
-  pub image_file : IsImageFile call limits image input
-  pub fails : OutputFails limits image input call.out
+  pub file : RunsFile call
+  pub fails : OutputFails file.limits file.image file.input call.out
 
 -- no memory was left for its run or a put of its output, of which a beginning was put
 pub record LacksOutput (call : CallSeen) : Type 0 where
-  pub limits : Limits
-  pub image : List ℕ
-  pub input : List ℕ
-  pub image_file : IsImageFile call limits image input
-  pub stops : OutputStops limits image input call.out
+  pub file : RunsFile call
+  pub stops : OutputStops file.limits file.image file.input call.out
 
 -- no memory was left for what is made of the file: nothing was put
 pub record LacksImage (call : CallSeen) : Type 0 where

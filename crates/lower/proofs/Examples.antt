@@ -30,6 +30,7 @@ use Rattle.flat_ir.specs.Closed.{is_closed}
 use Rattle.flat_ir.specs.Counts.{flat_run_in}
 use Rattle.lower.specs.declared.served.Served.{Served}
 use Rattle.lower.specs.Lowered.{lowered, entry_proc}
+use Rattle.lower.specs.Sets.{numbered_from}
 
 abbrev types : TypeRows
 types = IntRow ∷ BoolRow ∷ UnitRow ∷ []
@@ -39,18 +40,7 @@ told answer = record { labels = []; types = types; answer = answer }
 
 -- the numbers of the procedures that serve, from the first on
 abbrev served : ℕ → Served
-served first = record {
-  cast = first;
-  project = 1 + first;
-  apply = 2 + first;
-  read = 3 + first;
-  write = 4 + first;
-  fill = 5 + first;
-  multiply = 6 + first;
-  divide = 7 + first;
-  cast_at = [];
-  ways = [];
-}
+served first = numbered_from first (6 + first) (7 + first)
 
 -- they take as many words as they are handed, and none of these programs calls one
 abbrev unused : ℕ → LowProc

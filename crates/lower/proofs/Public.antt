@@ -23,10 +23,10 @@ pub use Rattle.lower.proofs.words.Steps.{at, Comes, Calm, Goal, N, left_of, here
 pub use Rattle.lower.proofs.words.Steps.{stores, if_true, if_false, builds, lt_true}
 pub use Rattle.lower.proofs.words.Standing.{stands_as}
 pub use Rattle.lower.proofs.words.Products.{products_are_served}
-pub use Rattle.lower.proofs.simulation.Fills.{LetsFill, vectors_are_served}
+pub use Rattle.lower.proofs.simulation.Fills.{plainly_lets, vectors_are_served}
 pub use Rattle.lower.proofs.merging.States.{calls_blame, in_front, element_past}
 pub use Rattle.lower.proofs.merging.Reads.{too_many}
 pub use Rattle.lower.proofs.words.Arithmetic.{word_small, positive_is, negative_is, small_fits}
 -- and what follows of it:
 pub use Rattle.lower.proofs.simulation.Programs.{words_follow_by, words_keep_by}
-pub use Rattle.lower.proofs.closing.Sets.{programs_with_sets_are_closed}
+pub use Rattle.lower.proofs.closing.Sets.{programs_with_sets_are_closed, serves_anywhere}

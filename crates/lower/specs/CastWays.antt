@@ -1,8 +1,8 @@
 -- How casts are made: in place where Dyn is joined with a type whose words stand behind a tag in Dyn and the word that
 -- is cast allows it, and else by the procedure for casts.
 use Rattle.std.specs.Prelude.{ℕ, ◌%◌, ◌==◌, if◌then◌else◌, List, map, Option, Some, None}
-use Rattle.grift_base.specs.Types.{TypeRow, TypeRows, IntRow, BoolRow, UnitRow, DynRow, FunRow, TupleRow, RefRow}
-use Rattle.grift_base.specs.Types.{VectRow, is_dyn}
+use Rattle.grift_base.specs.Types.{TypeRow, TypeRows, IntRow, BoolRow, UnitRow}
+use Rattle.grift_base.specs.Types.{is_dyn}
 use Rattle.object_layout.specs.DynWords.{int_tag, bool_tag, unit_tag, is_narrow, tagged}
 use Rattle.low_ir.specs.declared.code.WordOp.TheVariants.{Sra}
 use Rattle.low_ir.specs.Operations.{compute}
@@ -23,11 +23,7 @@ abbrev pub tag_of : TypeRow → Option Tag
 tag_of IntRow = Some Int
 tag_of BoolRow = Some Bool
 tag_of UnitRow = Some Unit
-tag_of DynRow = None
-tag_of (FunRow parameters answer) = None
-tag_of (TupleRow parts) = None
-tag_of (RefRow content) = None
-tag_of (VectRow content) = None
+tag_of _ = None
 
 -- ---- which way a cast goes
 

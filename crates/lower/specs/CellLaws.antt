@@ -107,20 +107,22 @@ pub record OnTheWayWriting (setting : Setting) (l : Layout) (s : LowState) (fram
   pub asked : t.words ≤ s.words + words
   pub turns : low_turns t ≤ 10
 
--- entered with these words the procedure comes to where Q holds, within so many steps, in the room of its frame and of
--- so many above it, for so many words and at this price, or the region is exhausted before
-abbrev pub ComesWhere : {V : Type 0} → (Halt → Ending V) → Setting → Layout → LowState → Proc → List ℕ
-    → (LowState → Type 0) → ℕ → ℕ → ℕ → ℕ → Type 0
-ComesWhere reading setting l s p given Q most frames words price =
+-- entered with these words the procedure comes, on such a way, to where Q holds, within so many steps, in the room of
+-- its frame and of so many above it, for so many words and at this price, or the region is exhausted before
+abbrev ComesOn : {V : Type 0} → (Halt → Ending V) → Setting → LowState → Proc → List ℕ
+    → (ℕ → ℕ → LowState → Type 0) → (LowState → Type 0) → ℕ → ℕ → ℕ → ℕ → Type 0
+ComesOn reading setting s p given Way Q most frames words price =
     (k : ℕ) × (k ≤ most)
-    × Reaches (low_machine reading setting) (OnTheWay setting l s frames words)
-    (λ t. Within s frames words t × Q t) k (entered s p given)
+    × Reaches (low_machine reading setting) (Way frames words) (λ t. Within s frames words t × Q t) k
+    (entered s p given)
     × CostsAtMost reading setting k (entered s p given) price
 
+-- nothing that was there changes on the way
+abbrev pub ComesWhere : {V : Type 0} → (Halt → Ending V) → Setting → Layout → LowState → Proc → List ℕ
+    → (LowState → Type 0) → ℕ → ℕ → ℕ → ℕ → Type 0
+ComesWhere reading setting l s p given = ComesOn reading setting s p given (OnTheWay setting l s)
+
+-- it may change
 abbrev pub ComesWriting : {V : Type 0} → (Halt → Ending V) → Setting → Layout → LowState → Proc → List ℕ
     → (LowState → Type 0) → ℕ → ℕ → ℕ → ℕ → Type 0
-ComesWriting reading setting l s p given Q most frames words price =
-    (k : ℕ) × (k ≤ most)
-    × Reaches (low_machine reading setting) (OnTheWayWriting setting l s frames words)
-    (λ t. Within s frames words t × Q t) k (entered s p given)
-    × CostsAtMost reading setting k (entered s p given) price
+ComesWriting reading setting l s p given = ComesOn reading setting s p given (OnTheWayWriting setting l s)

@@ -6,6 +6,7 @@ pub mod Steps
 pub mod CallLaws
 pub mod CellLaws
 pub mod FillLaws
+pub mod ReferenceLaws
 pub mod Serving
 pub mod Sets
 pub mod Meanings

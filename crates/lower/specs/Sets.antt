@@ -32,19 +32,29 @@ pub record ServesAnywhere (set : List Proc) (first : ℕ) (numbers : Served) : T
   pub multiply_last : suc (suc numbers.multiply) ≡ length set + first
   pub divide_last : suc numbers.divide ≡ length set + first
 
--- the numbers that a set tells
+-- casts, parts, calls, reads, writes and vectors numbered from the first on, and products and quotients at these
+abbrev pub numbered_from : ℕ → ℕ → ℕ → Served
+numbered_from first multiply divide = record {
+  cast = first;
+  project = 1 + first;
+  apply = 2 + first;
+  read = 3 + first;
+  write = 4 + first;
+  fill = 5 + first;
+  multiply = multiply;
+  divide = divide;
+  cast_at = [];
+  ways = [];
+}
+
+-- the numbers that a set tells, which needn't be in this order
 abbrev pub numbers_of : ProcSet → Served
-numbers_of set = record {
-  cast = set.cast;
+numbers_of set = record (numbered_from set.cast set.multiply set.divide) {
   project = set.project;
   apply = set.apply;
   read = set.read;
   write = set.write;
   fill = set.fill;
-  multiply = set.multiply;
-  divide = set.divide;
-  cast_at = [];
-  ways = [];
 }
 
 -- the same numbers, with the words of casts and how these are made

@@ -12,7 +12,7 @@ ghost use Rattle.low_ir.specs.Views.{code_of, proc_of};
 ghost use Rattle.lower.specs.Lowered.{ends, entry_proc, open_object, open_small, show_by, show_compound, show_kept};
 ghost use Rattle.lower.specs.Steps.{Adds};
 
-use crate::steps::{Step, Steps};
+use crate::steps::{Emitted, Step, Steps};
 use grift_base::environment::END_CALL;
 use grift_base::lists::OutOfMemory;
 use grift_base::verdicts::AnswerKind;
@@ -42,7 +42,7 @@ fn ends_if(
     kept: Kind,
     kind: AnswerKind,
     word: LowSource,
-) -> Result<(), OutOfMemory>
+) -> Emitted
     ensures { OnOk result (Adds steps.old.steps.items steps.new.steps.items
         (λ k. If Eq (Word 1) (Number (kind_number kept)) (ends (answer_kind_number kind) word) Done k)) }
 {

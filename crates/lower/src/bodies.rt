@@ -11,7 +11,7 @@ use crate::groups::Group;
 use crate::numbering::TEST_PLACE;
 use crate::operands::{fetch, fetch_all};
 use crate::operations::{Emitter, source_at};
-use crate::steps::{Step, Steps};
+use crate::steps::{Emitted, Step, Steps};
 use flat_ir::code::{FlatBody, Operand, Operands, Operation};
 use grift_base::lists::OutOfMemory;
 use low_ir::code::LowSource::{Number, Word};
@@ -68,7 +68,7 @@ impl Emitter<'_> {
         function: LowSource,
         arguments: &LowSources,
         d: u32,
-    ) -> Result<(), OutOfMemory>
+    ) -> Emitted
         ensures { OnOk result (Adds steps.old.steps.items steps.new.steps.items
             (λ k. call_bare self.now.shape function arguments.now (Into d k))) }
     {
@@ -85,7 +85,7 @@ impl Emitter<'_> {
         function: LowSource,
         arguments: &LowSources,
         d: u32,
-    ) -> Result<(), OutOfMemory>
+    ) -> Emitted
         ensures { OnOk result (Adds steps.old.steps.items steps.new.steps.items
             (λ k. call_by self.now.run.now bare self.now.shape function arguments.now (Into d k))) }
     {
@@ -150,7 +150,7 @@ impl Emitter<'_> {
         first: u32,
         count: u32,
         captured: &Operands,
-    ) -> Result<(), OutOfMemory>
+    ) -> Emitted
         ensures { OnOk result (Adds steps.old.steps.items steps.new.steps.items
             (λ k. group_code self.now.shape slot first count captured.now k)) }
     {
@@ -167,7 +167,7 @@ impl Emitter<'_> {
 
     /// A body whose value is put into a word.
     #[cycle(emission)]
-    pub fn emit_into(&self, steps: &mut Steps, body: &FlatBody, d: u32) -> Result<(), OutOfMemory>
+    pub fn emit_into(&self, steps: &mut Steps, body: &FlatBody, d: u32) -> Emitted
         ensures { OnOk result (Adds steps.old.steps.items steps.new.steps.items
             (λ k. emit self.now.run.now self.now.shape (body_of body.now) (Into d k))) }
     {

@@ -14,7 +14,7 @@ ghost use Rattle.lower.specs.Steps.{Adds};
 use crate::numbering::TEST_PLACE;
 use crate::operations::Emitter;
 use crate::served::{CastWay, CastWays, Tag};
-use crate::steps::{Step, Steps};
+use crate::steps::{Emitted, Step, Steps};
 use coercion_norm::cast_rows::{CastRow, CastRows};
 use grift_base::lists::OutOfMemory;
 use grift_base::places::TypeId;
@@ -112,13 +112,7 @@ impl Emitter<'_> {
     }
 
     // A cast by the procedure.
-    fn call_cast(
-        &self,
-        steps: &mut Steps,
-        d: u32,
-        a: LowSource,
-        number: u32,
-    ) -> Result<(), OutOfMemory>
+    fn call_cast(&self, steps: &mut Steps, d: u32, a: LowSource, number: u32) -> Emitted
         ensures { OnOk result (Adds steps.old.steps.items steps.new.steps.items
             (λ k. call_cast self.now.run.now d a number k)) }
     {
@@ -136,32 +130,19 @@ impl Emitter<'_> {
     }
 
     /// A cast of what a source is.
-    pub fn make_cast(
-        &self,
-        steps: &mut Steps,
-        d: u32,
-        a: LowSource,
-        number: u32,
-    ) -> Result<(), OutOfMemory>
+    pub fn make_cast(&self, steps: &mut Steps, d: u32, a: LowSource, number: u32) -> Emitted
         ensures { OnOk result (Adds steps.old.steps.items steps.new.steps.items (λ k.
             make_cast self.now.run.now self.now.shape d a number (way_at (slice_get self.now.run.now.ways number)) k)) }
     {
         match self.cast_way(number) {
             CastWay::Called => self.call_cast(steps, d, a, number),
-            CastWay::IntoDyn(tag) => self.put_into_dyn(steps, d, a, number, tag),
-            CastWay::OutOfDyn(tag) => self.take_out_of_dyn(steps, d, a, number, tag),
+            CastWay::IntoDyn(tag) => self.put_in_dyn(steps, d, a, number, tag),
+            CastWay::OutOfDyn(tag) => self.take_from_dyn(steps, d, a, number, tag),
         }
     }
 
     // A word goes behind a tag, where its four upper bits are alike, so that the shift loses nothing.
-    fn put_into_dyn(
-        &self,
-        steps: &mut Steps,
-        d: u32,
-        a: LowSource,
-        number: u32,
-        tag: Tag,
-    ) -> Result<(), OutOfMemory>
+    fn put_in_dyn(&self, steps: &mut Steps, d: u32, a: LowSource, number: u32, tag: Tag) -> Emitted
         ensures { OnOk result (Adds steps.old.steps.items steps.new.steps.items
             (λ k. make_cast self.now.run.now self.now.shape d a number (IntoDyn tag) k)) }
     {
@@ -181,14 +162,14 @@ impl Emitter<'_> {
     }
 
     // A word is taken from behind a tag, where it has this one.
-    fn take_out_of_dyn(
+    fn take_from_dyn(
         &self,
         steps: &mut Steps,
         d: u32,
         a: LowSource,
         number: u32,
         tag: Tag,
-    ) -> Result<(), OutOfMemory>
+    ) -> Emitted
         ensures { OnOk result (Adds steps.old.steps.items steps.new.steps.items
             (λ k. make_cast self.now.run.now self.now.shape d a number (OutOfDyn tag) k)) }
     {

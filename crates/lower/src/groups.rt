@@ -7,9 +7,8 @@ ghost use Rattle.lower.specs.Steps.{Adds};
 use crate::numbering::{TEST_PLACE, captured_offset, function_offset, narrow};
 use crate::operands::{fetch, store_far};
 use crate::operations::{Emitter, header};
-use crate::steps::{Step, Steps};
+use crate::steps::{Emitted, Step, Steps};
 use flat_ir::code::Operands;
-use grift_base::lists::OutOfMemory;
 use low_ir::code::LowSource::{Number, Word};
 use low_ir::code::WordOp;
 use object_layout::kinds::Kind;
@@ -32,12 +31,7 @@ fn group_words(captured: u32, others: u32) -> u64
 
 impl Emitter<'_> {
     // The captured words are stored one after another, behind the address in a word.
-    fn store_captured(
-        &self,
-        steps: &mut Steps,
-        d: u32,
-        captured: &Operands,
-    ) -> Result<(), OutOfMemory>
+    fn store_captured(&self, steps: &mut Steps, d: u32, captured: &Operands) -> Emitted
         ensures { OnOk result (Adds steps.old.steps.items steps.new.steps.items
             (λ k. store_captured self.now.shape d 0 captured.now k)) }
     {
@@ -54,13 +48,7 @@ impl Emitter<'_> {
     }
 
     // The functions behind the first are stored, behind the address in a word.
-    fn store_others(
-        &self,
-        steps: &mut Steps,
-        d: u32,
-        captured: u32,
-        group: Group,
-    ) -> Result<(), OutOfMemory>
+    fn store_others(&self, steps: &mut Steps, d: u32, captured: u32, group: Group) -> Emitted
         ensures { OnOk result (Adds steps.old.steps.items steps.new.steps.items
             (λ k. store_others self.now.shape d captured group.first 1 group.others k)) }
     {
@@ -81,7 +69,7 @@ impl Emitter<'_> {
     }
 
     // The functions behind the first get their local names.
-    fn name_others(&self, steps: &mut Steps, captured: u32, group: Group) -> Result<(), OutOfMemory>
+    fn name_others(&self, steps: &mut Steps, captured: u32, group: Group) -> Emitted
         ensures { OnOk result (Adds steps.old.steps.items steps.new.steps.items
             (λ k. name_others self.now.shape group.slot captured 1 group.others k)) }
     {
@@ -104,12 +92,7 @@ impl Emitter<'_> {
     }
 
     /// A group is made that has captured these operands, and its functions get their local names.
-    pub fn make_group(
-        &self,
-        steps: &mut Steps,
-        group: Group,
-        captured: &Operands,
-    ) -> Result<(), OutOfMemory>
+    pub fn make_group(&self, steps: &mut Steps, group: Group, captured: &Operands) -> Emitted
         ensures { OnOk result (Adds steps.old.steps.items steps.new.steps.items
             (λ k. make_group self.now.shape group.slot group.first group.others captured.now k)) }
     {

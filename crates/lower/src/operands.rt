@@ -6,7 +6,7 @@ ghost use Rattle.lower.specs.Numbering.{operand_word};
 ghost use Rattle.lower.specs.Steps.{Adds};
 
 use crate::numbering::{Shape, captured_offset, function_offset, narrow};
-use crate::steps::{Step, Steps};
+use crate::steps::{Emitted, Step, Steps};
 use flat_ir::code::{Operand, Operands};
 use grift_base::lists::OutOfMemory;
 use low_ir::code::LowSource::{Number, Word};
@@ -17,7 +17,7 @@ use std::alloc::Global;
 const NEAR: u64 = 2048;
 
 /// A word is loaded at an offset of any size from an address.
-pub fn load_far(steps: &mut Steps, d: u32, base: LowSource, offset: u64) -> Result<(), OutOfMemory>
+pub fn load_far(steps: &mut Steps, d: u32, base: LowSource, offset: u64) -> Emitted
     ensures { OnOk result (Adds steps.old.steps.items steps.new.steps.items (λ k. load_far d base offset k)) }
 {
     if offset < NEAR {
@@ -35,7 +35,7 @@ pub fn store_far(
     base: u32,
     source: LowSource,
     offset: u64,
-) -> Result<(), OutOfMemory>
+) -> Emitted
     ensures { OnOk result
         (Adds steps.old.steps.items steps.new.steps.items (λ k. store_far scratch base source offset k)) }
 {

@@ -17,7 +17,7 @@ ghost use Rattle.lower.specs.Steps.{put, Adds};
 use crate::numbering::{Shape, TEST_PLACE};
 use crate::operands::{fetch, fetch_all};
 use crate::served::Served;
-use crate::steps::{Step, Steps};
+use crate::steps::{Emitted, Step, Steps};
 use flat_ir::code::{Operand, Operands, Operation};
 use grift_base::environment::{PRINT_BYTE_CALL, PRINT_INT_CALL, READ_INT_CALL, TRAP_CALL};
 use grift_base::lists::OutOfMemory;
@@ -85,7 +85,7 @@ impl Emitter<'_> {
         object: LowSource,
         kind: Kind,
         ways: (LowCode, LowCode),
-    ) -> Result<(), OutOfMemory>
+    ) -> Emitted
         ensures { OnOk result (Adds steps.old.steps.items steps.new.steps.items
             (λ k. of_kind self.now.shape object (kind_number kind) (code_of ways.0) (code_of ways.1) k)) }
     {
@@ -97,13 +97,7 @@ impl Emitter<'_> {
     }
 
     /// A procedure is called, and its answer put into a word.
-    pub fn call(
-        &self,
-        steps: &mut Steps,
-        d: u32,
-        number: u32,
-        words: &[LowSource],
-    ) -> Result<(), OutOfMemory>
+    pub fn call(&self, steps: &mut Steps, d: u32, number: u32, words: &[LowSource]) -> Emitted
         ensures { OnOk result (Adds steps.old.steps.items steps.new.steps.items (λ k. Call d number words.now k)) }
     {
         let words = LowSources::from_slice(self.alloc, words)?;
@@ -117,7 +111,7 @@ impl Emitter<'_> {
         d: u32,
         ops: (WordOp, WordOp),
         sources: (LowSource, LowSource),
-    ) -> Result<(), OutOfMemory>
+    ) -> Emitted
         ensures { OnOk result (Adds steps.old.steps.items steps.new.steps.items
             (λ k. Compute ops.0 d sources.0 sources.1 (Compute ops.1 d (Word d) (Number 1) k))) }
     {
@@ -127,13 +121,7 @@ impl Emitter<'_> {
     }
 
     // An environment call that goes on, with the value `()`.
-    fn environment(
-        &self,
-        steps: &mut Steps,
-        d: u32,
-        number: u64,
-        word: LowSource,
-    ) -> Result<(), OutOfMemory>
+    fn environment(&self, steps: &mut Steps, d: u32, number: u64, word: LowSource) -> Emitted
         ensures { OnOk result (Adds steps.old.steps.items steps.new.steps.items
             (λ k. Environment number word (Number 0) (test_word self.now.shape) (test_word self.now.shape)
             (Set d (Number 0) k))) }
@@ -144,7 +132,7 @@ impl Emitter<'_> {
     }
 
     // The next number of the input. Where there is none, the program traps.
-    fn read_number(&self, steps: &mut Steps, d: u32) -> Result<(), OutOfMemory>
+    fn read_number(&self, steps: &mut Steps, d: u32) -> Emitted
         ensures { OnOk result (Adds steps.old.steps.items steps.new.steps.items (λ k. read_number self.now.shape d k)) }
     {
         let number = self.shape.operand_word(0)?;
@@ -157,7 +145,7 @@ impl Emitter<'_> {
     }
 
     // What is in a box.
-    fn unbox(&self, steps: &mut Steps, d: u32, a: LowSource) -> Result<(), OutOfMemory>
+    fn unbox(&self, steps: &mut Steps, d: u32, a: LowSource) -> Emitted
         ensures { OnOk result (Adds steps.old.steps.items steps.new.steps.items (λ k.
             of_kind self.now.shape a (kind_number BoxedKind) (Load d a 8 Done)
             (Call d self.now.run.now.read (Number 0 ∷ a ∷ Number 0 ∷ []) Done) k)) }
@@ -169,13 +157,7 @@ impl Emitter<'_> {
     }
 
     // A new value for a box.
-    fn set_box(
-        &self,
-        steps: &mut Steps,
-        d: u32,
-        a: LowSource,
-        b: LowSource,
-    ) -> Result<(), OutOfMemory>
+    fn set_box(&self, steps: &mut Steps, d: u32, a: LowSource, b: LowSource) -> Emitted
         ensures { OnOk result (Adds steps.old.steps.items steps.new.steps.items (λ k.
             of_kind self.now.shape a (kind_number BoxedKind) (Store b a 8 (Set d (Number 0) Done))
             (Call d self.now.run.now.write (Number 0 ∷ a ∷ Number 0 ∷ b ∷ []) Done) k)) }
@@ -190,7 +172,7 @@ impl Emitter<'_> {
     }
 
     // A box with a value.
-    fn make_box(&self, steps: &mut Steps, d: u32, a: LowSource) -> Result<(), OutOfMemory>
+    fn make_box(&self, steps: &mut Steps, d: u32, a: LowSource) -> Emitted
         ensures { OnOk result (Adds steps.old.steps.items steps.new.steps.items
             (λ k. Build d (Number (header (kind_number BoxedKind) 1) ∷ a ∷ []) k)) }
     {
@@ -205,7 +187,7 @@ impl Emitter<'_> {
         d: u32,
         primitive: PrimOp,
         sources: (LowSource, LowSource, LowSource),
-    ) -> Result<(), OutOfMemory>
+    ) -> Emitted
         ensures { OnOk result (Adds steps.old.steps.items steps.new.steps.items
             (λ k. operator self.now.run.now self.now.shape d primitive sources.0 sources.1 sources.2 k)) }
     {
@@ -245,7 +227,7 @@ impl Emitter<'_> {
     }
 
     // A part of what a source is: of a tuple, or by the procedure for parts.
-    fn part(&self, steps: &mut Steps, d: u32, a: LowSource, i: i64) -> Result<(), OutOfMemory>
+    fn part(&self, steps: &mut Steps, d: u32, a: LowSource, i: i64) -> Emitted
         ensures { OnOk result (Adds steps.old.steps.items steps.new.steps.items
             (λ k. part self.now.run.now self.now.shape d a i k)) }
     {
@@ -261,7 +243,7 @@ impl Emitter<'_> {
     }
 
     // A part of a tuple.
-    fn proj(&self, steps: &mut Steps, d: u32, operand: Operand, i: &i64) -> Result<(), OutOfMemory>
+    fn proj(&self, steps: &mut Steps, d: u32, operand: Operand, i: &i64) -> Emitted
         ensures { OnOk result (Adds steps.old.steps.items steps.new.steps.items (λ k.
             fetch self.now.shape (operand_word self.now.shape 0) operand (part self.now.run.now self.now.shape d
             (found self.now.shape (operand_word self.now.shape 0) operand) i.now k))) }
@@ -279,7 +261,7 @@ impl Emitter<'_> {
         operand: Operand,
         i: &i64,
         label: LabelId,
-    ) -> Result<(), OutOfMemory>
+    ) -> Emitted
         ensures { OnOk result (Adds steps.old.steps.items steps.new.steps.items (λ k.
             perform self.now.run.now self.now.shape d (ProjDyn operand i.now label) k)) }
     {
@@ -291,12 +273,7 @@ impl Emitter<'_> {
     }
 
     /// The value of an operation is put into a word.
-    pub fn perform(
-        &self,
-        steps: &mut Steps,
-        d: u32,
-        operation: &Operation,
-    ) -> Result<(), OutOfMemory>
+    pub fn perform(&self, steps: &mut Steps, d: u32, operation: &Operation) -> Emitted
         ensures { OnOk result (Adds steps.old.steps.items steps.new.steps.items
             (λ k. perform self.now.run.now self.now.shape d operation.now k)) }
     {
@@ -326,7 +303,7 @@ impl Emitter<'_> {
     }
 
     // A tuple of operands.
-    fn tuple(&self, steps: &mut Steps, d: u32, parts: &Operands) -> Result<(), OutOfMemory>
+    fn tuple(&self, steps: &mut Steps, d: u32, parts: &Operands) -> Emitted
         ensures { OnOk result (Adds steps.old.steps.items steps.new.steps.items (λ k.
             fetch_all self.now.shape 0 parts.now (Build d (Number (header (kind_number TupleKind) (length parts.now))
             ∷ found_all self.now.shape 0 parts.now) k))) }

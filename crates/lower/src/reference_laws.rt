@@ -10,23 +10,21 @@ ghost use Rattle.grift_base.specs.declared.verdicts.Trap.TheVariants.{Index, Len
 ghost use Rattle.low_ir.specs.Run.{Setting, Waiting, LowState};
 ghost use Rattle.type_graph.specs.declared.tables.TheConstants.{MOST_HEIGHT};
 ghost use Rattle.coercion_norm.specs.Coercions.{Coercion};
-ghost use Rattle.coercion_norm.specs.MergedMode.{function_parts};
-ghost use Rattle.coercion_norm.specs.Objects.{Object, Fixed};
-ghost use Rattle.coercion_norm.specs.Held.{Layout, There};
+ghost use Rattle.coercion_norm.specs.Objects.{Object};
+ghost use Rattle.coercion_norm.specs.Held.{Layout};
 ghost use Rattle.rt_cast.specs.Costs.{cast_cost};
 ghost use Rattle.rt_cast.specs.LightCasts.{cast_words_of, cast_price_of};
 ghost use Rattle.rt_cast.specs.ComposeCodes.{cast};
-ghost use Rattle.rt_cast.specs.MergedValues.{Merged, Proxied, Outcome, Stuck, Blames, cast_value};
-ghost use Rattle.rt_cast.specs.Carried.{IsVery, Carries, AreCarried, ComesTo};
+ghost use Rattle.rt_cast.specs.MergedValues.{Merged, Outcome, Stuck, cast_value};
+ghost use Rattle.rt_cast.specs.Carried.{IsVery, Carries};
 ghost use Rattle.rt_cast.specs.States.{Placed, Filled, IsReady, heap_of};
-ghost use Rattle.rt_refs.specs.CallCodes.{apply_proc};
 ghost use Rattle.rt_refs.specs.CellCodes.{asks_box, asks_length, read_proc, write_proc};
 ghost use Rattle.rt_refs.specs.FillCodes.{fill_loop, fill_proc};
-ghost use Rattle.rt_refs.specs.Arguments.{handed};
-ghost use Rattle.lower.specs.CallLaws.{Resumes, ComesToCall, GoesOnTo};
-ghost use Rattle.lower.specs.CellLaws.{cell_behind, under, CellStands, CellInRegion, TrapsAt, TellsAt, WriteComes};
-ghost use Rattle.lower.specs.CellLaws.{ComesWhere, ComesWriting};
+ghost use Rattle.lower.specs.CallLaws.{Resumes, GoesOnTo};
+ghost use Rattle.lower.specs.CellLaws.{under, CellStands, TrapsAt, TellsAt};
+ghost use Rattle.lower.specs.CellLaws.{ComesWhere};
 ghost use Rattle.lower.specs.FillLaws.{ComesToVector};
+ghost use Rattle.lower.specs.ReferenceLaws.{CallsAreMade, ElementsAreRead, ElementsAreWritten, BoxWritesAreBlamed};
 
 /// A call of a function with a proxy, of six arguments at most, finds the bare function, and casts the arguments, one
 /// after another from the first on, by the parts of the proxy's coercion. Then it comes to the call of that function,
@@ -35,16 +33,7 @@ ghost use Rattle.lower.specs.FillLaws.{ComesToVector};
 /// it. Or the region is exhausted. On the way whole objects fill the region and nothing that was there changes. Steps,
 /// words, price and the room of frames are told argument by argument: no words are asked for but those of the casts.
 pub fn calls_are_made<V>()
-    ensures { (reading : Halt → Ending V) (setting : Setting) (l : Layout) (first : ℕ) (s : LowState)
-        → reading (Lacks Region) ≡ Exhausted → IsReady setting l first → l.tallest ≤ MOST_HEIGHT
-        → (objects : List Object) → Filled setting l objects (heap_of s)
-        → (heads : ℕ → ℕ → TypeHead) (f : ℕ) (c : Coercion) (ds : List Coercion) (e : Coercion)
-        → function_parts c ≡ Some (ds, e) → (us : List (Merged ℕ)) (wv : ℕ) (ws : List ℕ)
-        → Carries l objects (Proxied f c) wv → AreCarried l (IsVery l) objects us ws → length us ≤ 6
-        → length ds ≡ length us → (head address : ℕ) (rest : List ℕ)
-        → There l objects f (Fixed head (address ∷ rest))
-        → ComesToCall reading setting l first s (IsVery l) objects heads (apply_proc (cast first)) (handed wv ws) f
-        address e ds us }
+    ensures { CallsAreMade V }
 {}
 
 /// With the word of the function's answer in its place, what waits since such a call goes on to what the cast of that
@@ -62,16 +51,7 @@ pub fn answers_are_cast<V>()
 /// A read of a box, whose index is 0, or of an element of a vector comes to what the cast of that element comes to, by
 /// the part for reads of its proxy's coercion, and by the coercion that does nothing where it has no proxy.
 pub fn elements_are_read<V>()
-    ensures { (reading : Halt → Ending V) (setting : Setting) (l : Layout) (first : ℕ) (s : LowState)
-        → reading (Lacks Region) ≡ Exhausted → IsReady setting l first → l.tallest ≤ MOST_HEIGHT
-        → (objects : List Object) → Filled setting l objects (heap_of s) → (head : ℕ → TypeHead) (u : Merged ℕ)
-        (wv : ℕ) → Carries l objects u wv → (a : ℕ) (d : Coercion) → cell_behind 0 u ≡ Some (a, d) → (ws : List ℕ)
-        → CellStands l objects s.memory a ws → (which i word : ℕ) → (which == asks_length) ≡ false
-        → slice_get ws i ≡ Some word → (x : Merged ℕ) → Carries l objects x word → (r : Outcome ℕ)
-        → cast_value head l.types d x ≡ r → (r ≡ Stuck → ⊥)
-        → ComesWhere reading setting l s (read_proc (cast first)) (which ∷ wv ∷ i ∷ [])
-        (ComesTo l setting s (IsVery l) objects r) (cast_cost l.width l.tallest + 17) (4 * l.tallest + 6)
-        (cast_words_of l d x) (cast_price_of l d x + 148) }
+    ensures { ElementsAreRead V }
 {}
 
 /// A read with an index outside traps in ten steps, whatever the proxy's coercion is, and changes nothing. An index
@@ -100,30 +80,13 @@ pub fn lengths_are_told<V>()
 /// word of what the cast of the value comes to, by the part for writes of its proxy's coercion, and nothing else that
 /// was there has changed; or to the blame of that cast, with nothing written.
 pub fn elements_are_written<V>()
-    ensures { (reading : Halt → Ending V) (setting : Setting) (l : Layout) (first : ℕ) (s : LowState)
-        → reading (Lacks Region) ≡ Exhausted → IsReady setting l first → l.tallest ≤ MOST_HEIGHT
-        → (objects : List Object) → Filled setting l objects (heap_of s) → l.region ≡ setting.region
-        → (head : ℕ → TypeHead) (u : Merged ℕ) (wv : ℕ) → Carries l objects u wv → (a : ℕ) (d : Coercion)
-        → cell_behind 1 u ≡ Some (a, d) → (ws : List ℕ) → CellInRegion l objects s.memory a ws
-        → (which i word old : ℕ) → slice_get ws i ≡ Some old → (x : Merged ℕ) → Carries l objects x word
-        → (r : Outcome ℕ) → cast_value head l.types d x ≡ r → (r ≡ Stuck → ⊥)
-        → ComesWriting reading setting l s (write_proc (cast first)) (which ∷ wv ∷ i ∷ word ∷ [])
-        (WriteComes setting l s (IsVery l) objects a i r) (cast_cost l.width l.tallest + 18) (4 * l.tallest + 7)
-        (cast_words_of l d x) (cast_price_of l d x + 147) }
+    ensures { ElementsAreWritten V }
 {}
 
 /// Where the cast of a value that is written to a box blames a label, the write comes to that blame, with nothing
 /// written, whatever words the cell has.
 pub fn box_writes_are_blamed<V>()
-    ensures { (reading : Halt → Ending V) (setting : Setting) (l : Layout) (first : ℕ) (s : LowState)
-        → reading (Lacks Region) ≡ Exhausted → IsReady setting l first → l.tallest ≤ MOST_HEIGHT
-        → (objects : List Object) → Filled setting l objects (heap_of s) → l.region ≡ setting.region
-        → (head : ℕ → TypeHead) (u : Merged ℕ) (wv : ℕ) → Carries l objects u wv → (a : ℕ) (d : Coercion)
-        → cell_behind 1 u ≡ Some (a, d) → (ws : List ℕ) → CellInRegion l objects s.memory a ws → (i word : ℕ)
-        (x : Merged ℕ) → Carries l objects x word → (label : ℕ) → cast_value head l.types d x ≡ Blames label
-        → ComesWriting reading setting l s (write_proc (cast first)) (asks_box ∷ wv ∷ i ∷ word ∷ [])
-        (WriteComes setting l s (IsVery l) objects a i (Blames label)) (cast_cost l.width l.tallest + 18)
-        (4 * l.tallest + 7) (cast_words_of l d x) (cast_price_of l d x + 147) }
+    ensures { BoxWritesAreBlamed V }
 {}
 
 /// A write with an index outside a vector traps in ten steps, before the value is cast and whatever the proxy's

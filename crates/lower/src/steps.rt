@@ -11,6 +11,9 @@ use low_ir::code::{LowCode, LowSource, LowSources, WordOp};
 use machine_words::conditions::Cond;
 use std::alloc::Global;
 
+/// What a function answers that adds steps: no value, or want of memory.
+pub type Emitted = Result<(), OutOfMemory>;
+
 /// A step of code, without what is done next.
 #[derive(Drop)]
 pub enum Step {
@@ -70,7 +73,7 @@ impl Steps {
     }
 
     // Adds a step at the end.
-    fn append(&mut self, step: Step) -> Result<(), OutOfMemory>
+    fn append(&mut self, step: Step) -> Emitted
         ensures { OnOk result (self.new.steps.items ≡ self.old.steps.items ++ step ∷ []) }
     {
         self.steps.push(step)?;
@@ -78,7 +81,7 @@ impl Steps {
     }
 
     /// Adds a step at the end.
-    pub fn push(&mut self, step: Step) -> Result<(), OutOfMemory>
+    pub fn push(&mut self, step: Step) -> Emitted
         ensures { OnOk result (Adds self.old.steps.items self.new.steps.items (put step)) }
     {
         self.append(step)?;
@@ -90,7 +93,7 @@ impl Steps {
         &mut self,
         test: (Cond, LowSource, LowSource),
         branches: (LowCode, LowCode),
-    ) -> Result<(), OutOfMemory>
+    ) -> Emitted
         ensures { OnOk result (Adds self.old.steps.items self.new.steps.items
             (If test.0 test.1 test.2 (code_of branches.0) (code_of branches.1))) }
     {

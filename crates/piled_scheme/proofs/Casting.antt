@@ -43,7 +43,7 @@ use Rattle.lower.proofs.Public.{cells_below, at, left_of, here, computes, if_tru
 use Rattle.piled_scheme.specs.Codes.{cast_proc, blame_part}
 use Rattle.piled_scheme.specs.Piling.{IsKnown, PlainType, BoxType, IsPiled, IsBoxCast, IsWrapped, piled_meaning, fate}
 use Rattle.piled_scheme.specs.Piling.{word_between, word_of, wrapper_object, wrapper_header, most_labels, AreStacked}
-use Rattle.piled_scheme.proofs.Deciding.{by_heads, kept_or_blamed, known_not_dyn, solid_decides}
+use Rattle.piled_scheme.proofs.Deciding.{by_heads, kept_or_blamed, known_not_dyn, solid_decides, plain_between}
 use Rattle.piled_scheme.proofs.Laws.{piled_laws, wrapper_more}
 use Rattle.piled_scheme.proofs.Looking.{Walk, walk, ends, blamed}
 use Rattle.piled_scheme.proofs.Piles.{Carried, peeled, wrapped_more, wrapped_first}
@@ -122,16 +122,9 @@ module _ (types : TypeRows) (all : List TypeCast) (cast : TypeCast) where
           (record {
             content = content;
             wanted = wanted;
-            inner = inner;
-            outer = outer;
             from_is = e;
             to_is = f;
-            content_is = c;
-            wanted_is = w;
-            plain = h;
-            plain_outer = g;
-            part_is = refl;
-            small = p.small;
+            reading = plain_between types content wanted cast.label inner outer c w h g p.small;
           })
           (λ shape. solid (RefRow content) (RefRow wanted) (BoxType content inner c h) (BoxType wanted outer w g) e f
           shape) (rw (c, w) refl)
@@ -425,7 +418,8 @@ module _ (setting : Setting) (l : Layout) (procs : List Proc) (casts : List Type
           (subst (λ x. Decides (if fits (RefRow content) cast (shape_of (flat_arity procs) v) then Wrapping cast else
           NoCast) v (begun w x)) (sym (word_is ∙ is))
           (box_wrapped content part cast box
-          (subst (λ x. x < 2 ^ 33) (sym box.part_is) (fate_small box.inner box.outer cast.label box.small)) v w c))
+          (let b = box.reading in
+          subst (λ x. x < 2 ^ 33) (sym b.part_is) (fate_small b.inner b.outer cast.label b.small)) v w c))
 
 -- ---- what is handed on is a word, and nothing is done in place
 
@@ -450,8 +444,9 @@ known_words types all cast p = by (makes types all cast p)
     by (NotWrapped each is) =
         let z = fate_small p.row p.other cast.label p.small in omega (arith, z, is)
     by (IsBoxed content part row_is box each is) =
-        let z = fate_small box.inner box.outer cast.label box.small in
-        let y = box.part_is in
+        let b = box.reading in
+        let z = fate_small b.inner b.outer cast.label b.small in
+        let y = b.part_is in
         omega (arith, z, y, is)
 
 -- no cast of a known type to a known type has a way in place

@@ -8,6 +8,7 @@ use Rattle.rt_refs.specs.Products.{product_loop}
 use Rattle.rt_refs.specs.Quotients.{arithmetic_procs, quotient_loop}
 use Rattle.lower.specs.Serving.{takes, Serve}
 use Rattle.lower.specs.Sets.{StandFrom, ServesAnywhere}
+use Rattle.lower.proofs.Public.{serves_anywhere}
 use Rattle.piled_scheme.specs.Codes.{read_proc, write_proc, unbox_proc, set_proc, piled_procs}
 use Rattle.piled_scheme.specs.Codes.{piled_numbers}
 
@@ -58,10 +59,6 @@ module _ (procs : List Proc) (first : ℕ) (s : StandFrom procs first (piled_pro
       products_closed))))))))
 
 pub piled_serves_anywhere : (first : ℕ) → ServesAnywhere (piled_procs first) first (piled_numbers first)
-piled_serves_anywhere first = record {
-  serve = λ procs s. piled_serves procs first s;
-  closed = λ procs s. piled_closed procs first s;
-  persist = (refl, refl);
-  multiply_last = omega arith;
-  divide_last = omega arith;
-}
+piled_serves_anywhere first =
+    serves_anywhere (piled_procs first) first (piled_numbers first) (λ procs s. piled_serves procs first s)
+    (λ procs s. piled_closed procs first s) (refl, refl) (omega arith) (omega arith)

@@ -5,18 +5,21 @@ use Rattle.grift_base.specs.Types.{TypeRow, TypeRows, IntRow, BoolRow, UnitRow, 
 use Rattle.grift_base.specs.Types.{VectRow, row_at, same_head, is_base, is_dyn}
 use Rattle.cast_modes.specs.Modes.{TypeCast, type_cast, Shape, Decision, Keeping, Wrapping, Blaming, NoCast, piling}
 use Rattle.cast_modes.specs.Modes.{fits}
-use Rattle.piled_scheme.specs.Piling.{IsKnown, PlainType, BoxType, fate, IsBoxCast, most_labels}
+use Rattle.piled_scheme.specs.Piling.{IsKnown, PlainType, BoxType, fate, IsPlain, IsBoxCast, most_labels}
 
--- a cast between plain types, and what it does
-pub record IsPlain (types : TypeRows) (cast : TypeCast) (part : ℕ) : Type 0 where
-  pub inner : TypeRow
-  pub outer : TypeRow
-  pub from_is : row_at types cast.from ≡ Some inner
-  pub to_is : row_at types cast.to ≡ Some outer
-  pub plain : is_base inner ≡ true
-  pub plain_outer : is_base outer ≡ true
-  pub part_is : part ≡ fate inner outer cast.label
-  pub small : cast.label < most_labels
+pub plain_between : (types : TypeRows) (from to label : ℕ) (inner outer : TypeRow) → row_at types from ≡ Some inner
+    → row_at types to ≡ Some outer → is_base inner ≡ true → is_base outer ≡ true → label < most_labels
+    → IsPlain types (type_cast from label to) (fate inner outer label)
+plain_between types from to label inner outer from_is to_is plain plain_outer small = record {
+  inner = inner;
+  outer = outer;
+  from_is = from_is;
+  to_is = to_is;
+  plain = plain;
+  plain_outer = plain_outer;
+  part_is = refl;
+  small = small;
+}
 
 abbrev pub kept_or_blamed : TypeRow → TypeRow → ℕ → Decision TypeCast
 kept_or_blamed inner outer label = if same_head inner outer then Keeping else Blaming label
@@ -84,28 +87,18 @@ module _ (types : TypeRows) (all : List TypeCast) (cast : TypeCast) (part : ℕ)
   pub writes_by : (piling types all).writing cast ≡ Some written_cast
   writes_by = let e = b.from_is in let f = b.to_is in rw (e, f) refl
 
-  pub read_plain : IsPlain types read_cast part
-  read_plain = record {
-    inner = b.inner;
-    outer = b.outer;
-    from_is = b.content_is;
-    to_is = b.wanted_is;
-    plain = b.plain;
-    plain_outer = b.plain_outer;
-    part_is = b.part_is;
-    small = b.small;
-  }
-
+  -- the one of what is written goes the other way
   pub written_plain : IsPlain types written_cast part
   written_plain = record {
-    inner = b.outer;
-    outer = b.inner;
-    from_is = b.wanted_is;
-    to_is = b.content_is;
-    plain = b.plain_outer;
-    plain_outer = b.plain;
-    part_is = b.part_is ∙ both_ways b.inner b.outer b.plain b.plain_outer;
-    small = b.small;
+    inner = b.reading.outer;
+    outer = b.reading.inner;
+    from_is = b.reading.to_is;
+    to_is = b.reading.from_is;
+    plain = b.reading.plain_outer;
+    plain_outer = b.reading.plain;
+    part_is = b.reading.part_is
+        ∙ both_ways b.reading.inner b.reading.outer b.reading.plain b.reading.plain_outer;
+    small = b.reading.small;
   }
     where
       both_ways : (inner outer : TypeRow) → is_base inner ≡ true → is_base outer ≡ true

@@ -26,10 +26,9 @@ use Rattle.flat_ir.specs.Bodies.{Proc}
 use Rattle.flat_ir.specs.FlatTally.{act_cost}
 use Rattle.coer_core.specs.TurnPrices.{piled_prices}
 use Rattle.flat_ir.specs.Machine.{FlatValue, FlatFrame, FlatStore, FlatAfter, flat_arity, flat_entered, flat_operate}
-use Rattle.rt_cast.specs.States.{Placed, heap_of}
+use Rattle.rt_cast.specs.States.{Placed}
 use Rattle.lower.specs.CarriedValues.{AreCarried}
 use Rattle.lower.specs.SchemeLaws.{After, operator_leaves, at_or_zero}
-use Rattle.lower.specs.Storage.{Filled}
 use Rattle.lower.proofs.Public.{positive_is, negative_is, element_past, too_many}
 use Rattle.lower.proofs.Public.{at, here, if_false, stores, left_of}
 use Rattle.piled_scheme.specs.Codes.{read_proc, write_proc, in_vector}
@@ -39,14 +38,14 @@ use Rattle.piled_scheme.proofs.Storing.{after, may as may_write, end as end_of, 
 use Rattle.piled_scheme.proofs.Turns.{CellsAt, no_more, speech}
 use Rattle.piled_scheme.proofs.Vectors.{element_inside, entering_most, counted, short, within, outside, trapped}
 use Rattle.piled_scheme.proofs.Vectors.{element_read, length_read, P, Q, To, calm}
-use Rattle.piled_scheme.proofs.Walking.{Way, room_of, on_way, walks, stays}
+use Rattle.piled_scheme.proofs.Walking.{IsQuiet, quiet_way, room_of, walks, stays}
 
 module _ (setting : Setting) (l : Layout) (procs : List Proc) (casts : List TypeCast) (m : Measures)
     (placed : Placed setting l) (begins : l.region ≡ setting.region) (s : LowState) (places : List ℕ)
     (objects : List Object) (store : FlatStore TypeCast)
     (cells : CellsAt setting l procs casts m s places objects store s) (base : List (FlatFrame TypeCast)) where
   open (speech setting l procs casts m s places objects store base operator_leaves)
-      use {Filling, Carries, Going, inside}
+      use {Filling, grown_number, Carries, Going, inside}
 
   abbrev AllCarried : List (FlatValue TypeCast) → List ℕ → Type 0
   AllCarried vs ws = AreCarried l setting.address procs piled_meaning places objects (in_row vs) ws
@@ -192,16 +191,7 @@ module _ (setting : Setting) (l : Layout) (procs : List Proc) (casts : List Type
   Stuck operator vs te v frames =
       (i : ℕ) × ((n : ℕ) → Filling n → (credit : ℕ) → Does i (turned operator (vs v) frames) credit n te)
 
-  abbrev Quiet : LowState → Type 0
-  Quiet te =
-      (heap_of te ≡ heap_of s) × (te.world ≡ s.world) × (te.waiting ≡ s.waiting) × (te.active.count ≤ 24)
-
-  quiet_way : (te : LowState) → Quiet te → (n : ℕ) → Filling n → Way setting l procs casts m s te 0 n n te
-  quiet_way te q n filled =
-      on_way setting l procs casts m s te te 0 n n objects
-      (subst (Filled piled_meaning setting l n objects) (sym q.0) filled) q.1 q.2 q.3 (omega arith)
-
-  reads_stuck : (index : FlatValue TypeCast) (te : LowState) → Quiet te → (v : FlatValue TypeCast) (cast : TypeCast)
+  reads_stuck : (index : FlatValue TypeCast) (te : LowState) → IsQuiet s te → (v : FlatValue TypeCast) (cast : TypeCast)
       (wrapped : List TypeCast) (w : ℕ) → Carried l objects setting procs places v (cast ∷ wrapped) w
       → (frames : List (FlatFrame TypeCast))
       → (i : ℕ) × ((n : ℕ) → Filling n → (credit : ℕ)
@@ -233,13 +223,13 @@ module _ (setting : Setting) (l : Layout) (procs : List Proc) (casts : List Type
                   (λ left u. Going (suc r.0) (Return index) (PrimFrame VectorRef (v ∷ []) ∷ CastFrame part ∷ frames)
                   store (n + 0) left u) (room_of setting l procs casts m s te q.2 q.3) (
                     tt,
-                    quiet_way te q (n + 0) (subst Filling (no_more n) filled),
-                    r.1 (n + 0) (subst Filling (no_more n) filled) (credit + 896),
+                    quiet_way setting l procs casts m s objects te q (n + 0) (grown_number n filled),
+                    r.1 (n + 0) (grown_number n filled) (credit + 896),
                   ),
             ),
           )
 
-  lengths_stuck : (te : LowState) → Quiet te → (v : FlatValue TypeCast) (cast : TypeCast) (wrapped : List TypeCast)
+  lengths_stuck : (te : LowState) → IsQuiet s te → (v : FlatValue TypeCast) (cast : TypeCast) (wrapped : List TypeCast)
       (w : ℕ) → Carried l objects setting procs places v (cast ∷ wrapped) w
       → (i : ℕ) × ((n : ℕ) → Filling n → (credit : ℕ) → Does i (turned VectorLength (v ∷ []) base) credit n te)
   lengths_stuck te q (RunInt x) cast wrapped w c = (0, λ n filled credit. refl)
@@ -260,8 +250,8 @@ module _ (setting : Setting) (l : Layout) (procs : List Proc) (casts : List Type
               (λ left u. Going (suc r.0) (Return v) (PrimFrame VectorLength [] ∷ base) store (n + 0) left u)
               (room_of setting l procs casts m s te q.2 q.3) (
                 tt,
-                quiet_way te q (n + 0) (subst Filling (no_more n) filled),
-                r.1 (n + 0) (subst Filling (no_more n) filled) (credit + 896),
+                quiet_way setting l procs casts m s objects te q (n + 0) (grown_number n filled),
+                r.1 (n + 0) (grown_number n filled) (credit + 896),
               ),
         ),
       )
@@ -315,8 +305,9 @@ module _ (setting : Setting) (l : Layout) (procs : List Proc) (casts : List Type
                     (λ left u. Going (suc r.0) (Return index) (PrimFrame VectorRef (v ∷ []) ∷ CastFrame part ∷ base)
                     store (n + 0) left u) (room_of setting l procs casts m s te refl (omega arith)) (
                       tt,
-                      quiet_way te (refl, refl, refl, omega arith) (n + 0) (subst Filling (no_more n) filled),
-                      r.1 (n + 0) (subst Filling (no_more n) filled) (0 + 896),
+                      quiet_way setting l procs casts m s objects te (refl, refl, refl, omega arith) (n + 0)
+                          (grown_number n filled),
+                      r.1 (n + 0) (grown_number n filled) (0 + 896),
                     ),
               ),
             )
@@ -342,8 +333,9 @@ module _ (setting : Setting) (l : Layout) (procs : List Proc) (casts : List Type
                 (λ left u. Going (suc r.0) (Return v) (PrimFrame VectorLength [] ∷ base) store (n + 0) left u)
                 (room_of setting l procs casts m s te refl (omega arith)) (
                   tt,
-                  quiet_way te (refl, refl, refl, omega arith) (n + 0) (subst Filling (no_more n) filled),
-                  r.1 (n + 0) (subst Filling (no_more n) filled) (0 + 896),
+                  quiet_way setting l procs casts m s objects te (refl, refl, refl, omega arith) (n + 0)
+                      (grown_number n filled),
+                  r.1 (n + 0) (grown_number n filled) (0 + 896),
                 ),
           ),
         )

@@ -30,17 +30,16 @@ use Rattle.low_ir.specs.Codes.{either, blame_code}
 use Rattle.rt_cast.specs.States.{Placed, heap_of}
 use Rattle.rt_cast.specs.Objects.{HoldsWords}
 use Rattle.lower.specs.CarriedValues.{AreCarried, CellHeld}
-use Rattle.lower.specs.Storage.{Filled}
 use Rattle.lower.specs.SchemeLaws.{After, StopsNow, Walks, operator_leaves}
 use Rattle.lower.proofs.Public.{cell_of, cell_word_there}
 use Rattle.lower.proofs.Public.{loads, if_true, if_false, sets_word, left_of}
 use Rattle.piled_scheme.specs.Codes.{unbox_proc, read_proc}
-use Rattle.piled_scheme.specs.Piling.{piled_meaning, wrapper_object, wrapper_header, most_labels}
-use Rattle.piled_scheme.proofs.Deciding.{IsPlain, read_cast, read_plain, reads_by}
+use Rattle.piled_scheme.specs.Piling.{piled_meaning, wrapper_object, wrapper_header, most_labels, IsPlain}
+use Rattle.piled_scheme.proofs.Deciding.{read_cast, reads_by}
 use Rattle.piled_scheme.proofs.Looking.{Walk, walk, ends, loads_word, looked, blamed}
 use Rattle.piled_scheme.proofs.Piles.{peeled}
-use Rattle.piled_scheme.proofs.Turns.{FilledAt, CellsAt, C, returned, plain_turn, keeps, blames_it, no_more, speech}
-use Rattle.piled_scheme.proofs.Walking.{Way, room_of, on_way, walks, walks_by, stays, tail_calls}
+use Rattle.piled_scheme.proofs.Turns.{FilledAt, CellsAt, C, returned, plain_turn, keeps, blames_it, speech}
+use Rattle.piled_scheme.proofs.Walking.{quiet_way, room_of, walks, walks_by, stays, tail_calls}
 use Rattle.piled_scheme.proofs.Walking.{tail_calls_on, blames}
 
 -- what casts that wait do with what is read: the part of the first that doesn't keep it, and 0 where all keep it
@@ -65,7 +64,7 @@ module _ (setting : Setting) (l : Layout) (procs : List Proc) (casts : List Type
     (s : LowState) (places : List ℕ) (objects : List Object) (store : FlatStore TypeCast)
     (cells : CellsAt setting l procs casts m s places objects store s) (base : List (FlatFrame TypeCast)) where
   open (speech setting l procs casts m s places objects store base operator_leaves)
-      use {Filling, Carries, Going, inside}
+      use {Filling, grown_number, Carries, Going, inside}
 
   -- the procedure begins with an address and what was found so far
   abbrev looks_at : ℕ → ℕ → LowState
@@ -162,15 +161,6 @@ module _ (setting : Setting) (l : Layout) (procs : List Proc) (casts : List Type
   cost : (w failing : ℕ) → left_of setting (looks_at w failing) ≤ 300
   cost w failing = let z = ap entering_some there in omega (arith, z)
 
-  here_on_way : (u : LowState) (n : ℕ) → Filling n → heap_of u ≡ heap_of s → u.world ≡ s.world
-      → u.waiting ≡ s.waiting → u.active.count ≤ 24 → Way setting l procs casts m s u 0 n n u
-  here_on_way u n filled same world waits few =
-      on_way setting l procs casts m s u u 0 n n objects
-      (subst (Filled piled_meaning setting l n objects) (sym same) filled) world waits few (omega arith)
-
-  grown_number : (n : ℕ) → Filling n → Filling (n + 0)
-  grown_number n filled = subst Filling (no_more n) filled
-
   -- ---- what was read goes through the casts that wait
 
   none_of : (part behind failing : ℕ) → failing ≡ (if part == 0 then behind else part) → failing ≡ 0
@@ -203,7 +193,7 @@ module _ (setting : Setting) (l : Layout) (procs : List Proc) (casts : List Type
         suc r.0,
         λ n filled credit le. (
           tt,
-          here_on_way (given_at a wx) n filled refl refl refl (omega arith),
+          quiet_way setting l procs casts m s objects (given_at a wx) (refl, refl, refl, omega arith) n filled,
           plain_turn setting l procs casts m s places objects store base operator_leaves cast waits.0 waits.2 r.0
               (casts_onto pending base) x credit n (given_at a wx)
               (keeps setting l procs casts m s places objects store base operator_leaves cast waits.0 waits.2 both.0 r.0
@@ -244,7 +234,7 @@ module _ (setting : Setting) (l : Layout) (procs : List Proc) (casts : List Type
             suc r.0,
             λ n filled credit. (
               tt,
-              here_on_way (looks_at a failing) n filled refl refl refl (omega arith),
+              quiet_way setting l procs casts m s objects (looks_at a failing) (refl, refl, refl, omega arith) n filled,
               plain_turn setting l procs casts m s places objects store base operator_leaves cast waits.0 waits.2 r.0
                   (casts_onto pending base) x credit n (looks_at a failing)
                   (keeps setting l procs casts m s places objects store base operator_leaves cast waits.0 waits.2 none
@@ -264,7 +254,7 @@ module _ (setting : Setting) (l : Layout) (procs : List Proc) (casts : List Type
             suc 0,
             λ n filled credit. (
               tt,
-              here_on_way (looks_at a failing) n filled refl refl refl (omega arith),
+              quiet_way setting l procs casts m s objects (looks_at a failing) (refl, refl, refl, omega arith) n filled,
               plain_turn setting l procs casts m s places objects store base operator_leaves cast waits.0 waits.2 0
                   (casts_onto pending base) x credit n (looks_at a failing)
                   (blames_it setting l procs casts m s places objects store base operator_leaves cast waits.0 waits.2
@@ -388,7 +378,7 @@ module _ (setting : Setting) (l : Layout) (procs : List Proc) (casts : List Type
       let read = read_cast l.types casts cast i.part i.is in
       let next : ℕ = if i.part == 0 then failing else i.part in
       let r = unboxed v inner z.1 (read ∷ pending) next
-      (i.part, failing, read_plain l.types casts cast i.part i.is, waits, refl) in
+      (i.part, failing, i.is.reading, waits, refl) in
       let frames : List (FlatFrame TypeCast) = PrimFrame Unbox [] ∷ CastFrame read ∷ casts_onto pending base in (
         suc r.0,
         λ n filled credit.
@@ -403,7 +393,8 @@ module _ (setting : Setting) (l : Layout) (procs : List Proc) (casts : List Type
                   i.there
                   (λ credit le. (
                     tt,
-                    here_on_way (looks_at inner next) (n + 0) (grown_number n filled) refl refl refl (omega arith),
+                    quiet_way setting l procs casts m s objects (looks_at inner next) (refl, refl, refl, omega arith)
+                        (n + 0) (grown_number n filled),
                     r.1 (n + 0) (grown_number n filled) credit,
                   ))) (let z = cost w failing in omega (arith, z)),
             ),
@@ -426,7 +417,7 @@ module _ (setting : Setting) (l : Layout) (procs : List Proc) (casts : List Type
         let read = read_cast l.types casts cast i.part i.is in
         let next : ℕ = if i.part == 0 then 0 else i.part in
         let r = unboxed v z.0 z.1 (read ∷ []) next
-        (i.part, 0, read_plain l.types casts cast i.part i.is, refl, refl) in (
+        (i.part, 0, i.is.reading, refl, refl) in (
           suc r.0,
           λ n filled.
               let X = λ (left : ℕ) (u : LowState). Going (suc r.0) (Return v)
@@ -445,7 +436,8 @@ module _ (setting : Setting) (l : Layout) (procs : List Proc) (casts : List Type
                     (passes read_at 0 0 n (n + 0) X refl filled w z.0 i.part 0 i.there
                     (λ credit le. (
                       tt,
-                      here_on_way (looks_at z.0 next) (n + 0) (grown_number n filled) refl refl refl (omega arith),
+                      quiet_way setting l procs casts m s objects (looks_at z.0 next) (refl, refl, refl, omega arith)
+                          (n + 0) (grown_number n filled),
                       r.1 (n + 0) (grown_number n filled) credit,
                     ))))) (let y = read_cost in omega (arith, y)),
               ),

@@ -3,7 +3,7 @@ use Rattle.std.proofs.Common.{◌≡◌, ℕ, suc, ◌+◌, ◌^◌, ◌<◌, Li
 use Rattle.std.proofs.Common.{sym, ap, ◌∙◌, subst, arith, slice_get, ℤ, ◌%◌}
 use Rattle.std.specs.Int.{w64, cast_unsigned}
 use Rattle.grift_base.specs.declared.operators.PrimOp.{PrimOp}
-use Rattle.grift_base.specs.declared.operators.PrimOp.TheVariants.{Unbox, BoxSet}
+use Rattle.grift_base.specs.declared.operators.PrimOp.TheVariants.{Unbox, BoxSet, VectorRef, VectorSet, VectorLength}
 use Rattle.grift_base.specs.Types.{TypeRows}
 use Rattle.core_calc.specs.Account.{Measures}
 use Rattle.low_ir.specs.Procedures.{Proc as LowProc}
@@ -33,7 +33,7 @@ use Rattle.lower.specs.SchemeLaws.{Here, Answers, Serves, Calls, CastsMade, Part
 use Rattle.lower.specs.SchemeLaws.{OperatorDone, IsHandedOn, at_or_zero, operator_leaves, part_leaves}
 use Rattle.lower.specs.declared.served.Served.{Served}
 use Rattle.lower.specs.Sets.{StandFrom, with_casts}
-use Rattle.lower.proofs.Public.{LetsFill, products_are_served, stands_as, vectors_are_served}
+use Rattle.lower.proofs.Public.{plainly_lets, products_are_served, stands_as, vectors_are_served}
 use Rattle.piled_scheme.specs.Codes.{cast_proc, idle_proc, read_proc, write_proc, piled_procs, piled_numbers}
 use Rattle.piled_scheme.specs.Piling.{piled_meaning, ArePiled, IsBoxCast}
 use Rattle.piled_scheme.proofs.Casting.{cast_made, handed_on, known_words, none_in_place}
@@ -52,15 +52,6 @@ no_parts types all cast part b k = let e = b.from_is in let f = b.to_is in rw (e
 no_calls : (types : TypeRows) (all : List TypeCast) (cast : TypeCast) (part : ℕ) → IsBoxCast types cast part
     → (piling types all).calling cast ≡ None
 no_calls types all cast part b = let e = b.from_is in let f = b.to_is in rw (e, f) refl
-
--- the account lets vectors be made
-piled_lets : (l : Layout) (casts : List TypeCast) (m : Measures) → LetsFill piled_meaning l casts m
-piled_lets l casts m = record {
-  serving = omega arith;
-  asks = λ n. omega arith;
-  budget = λ n. omega arith;
-  traps = omega arith;
-}
 
 module _ (setting : Setting) (l : Layout) (procs : List Proc) (casts : List TypeCast) (m : Measures) (first : ℕ)
     (words : List ℕ) (placed : Placed setting l) (begins : l.region ≡ setting.region) (narrow : setting.top < 2 ^ 34)
@@ -191,33 +182,46 @@ module _ (setting : Setting) (l : Layout) (procs : List Proc) (casts : List Type
           store here.cells base x wx c.1.0 v cast w c.0 in
           (r.0, r.1 number here.filled)
 
+  reads : OperatorDone piled_meaning setting l procs casts m serving VectorRef (read_proc (7 + first))
+      (λ ws. 1 ∷ at_or_zero ws 0 ∷ at_or_zero ws 1 ∷ [])
+  reads = record {
+    does = λ s number places objects store here base vs ws c handed.
+        reads_for setting l procs casts m placed begins s places objects store here.cells base (7 + first) vs ws c
+        number here.filled;
+  }
+
+  measures : OperatorDone piled_meaning setting l procs casts m serving VectorLength (read_proc (7 + first))
+      (λ ws. 2 ∷ at_or_zero ws 0 ∷ 0 ∷ [])
+  measures = record {
+    does = λ s number places objects store here base vs ws c handed.
+        measures_for setting l procs casts m placed begins s places objects store here.cells base (7 + first) vs ws c
+        number here.filled;
+  }
+
+  writes : OperatorDone piled_meaning setting l procs casts m serving VectorSet (write_proc (8 + first))
+      (λ ws. 1 ∷ at_or_zero ws 0 ∷ at_or_zero ws 1 ∷ at_or_zero ws 2 ∷ [])
+  writes = record {
+    does = λ s number places objects store here base vs ws c handed.
+        writes_for setting l procs casts m placed begins s places objects store here.cells base (8 + first) vs ws c
+        number here.filled;
+  }
+
   cells : CellsServed piled_meaning setting l procs casts m serving
   cells = record {
     read = read_proc (7 + first);
     read_stands = stands_as setting _ (read_proc (7 + first)) (stand 3 _ refl) refl;
     unboxes = unboxes;
-    reads = record {
-      does = λ s number places objects store here base vs ws c handed.
-          reads_for setting l procs casts m placed begins s places objects store here.cells base (7 + first) vs ws c
-          number here.filled;
-    };
-    measures = record {
-      does = λ s number places objects store here base vs ws c handed.
-          measures_for setting l procs casts m placed begins s places objects store here.cells base (7 + first) vs ws c
-          number here.filled;
-    };
+    reads = reads;
+    measures = measures;
     write = write_proc (8 + first);
     write_stands = stands_as setting _ (write_proc (8 + first)) (stand 4 _ refl) refl;
     sets = sets;
-    writes = record {
-      does = λ s number places objects store here base vs ws c handed.
-          writes_for setting l procs casts m placed begins s places objects store here.cells base (8 + first) vs ws c
-          number here.filled;
-    };
+    writes = writes;
     fill = fill_proc (6 + first);
     fill_stands = stands_as setting _ (fill_proc (6 + first)) (stand 5 _ refl) refl;
-    fills = vectors_are_served piled_meaning piled_laws setting l procs casts m (piled_lets l casts m) placed begins
-        narrow (6 + first) (stand 6 _ refl) serving;
+    fills = vectors_are_served piled_meaning piled_laws setting l procs casts m
+        (plainly_lets piled_meaning l casts m (omega arith) (λ n. refl) refl) placed begins narrow (6 + first)
+        (stand 6 _ refl) serving;
   }
 
   calling : CallsMade piled_meaning setting l procs casts m serving

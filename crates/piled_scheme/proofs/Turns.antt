@@ -24,8 +24,8 @@ use Rattle.lower.specs.Storage.{Filled}
 use Rattle.lower.specs.CarriedValues.{CellsHeld}
 use Rattle.lower.specs.SchemeLaws.{Here, ReturnsAt, Returns, After, Goes, Aim}
 use Rattle.lower.proofs.Public.{at}
-use Rattle.piled_scheme.specs.Piling.{piled_meaning, fate}
-use Rattle.piled_scheme.proofs.Deciding.{IsPlain, plain_decides, kept_or_blamed}
+use Rattle.piled_scheme.specs.Piling.{piled_meaning, fate, IsPlain}
+use Rattle.piled_scheme.proofs.Deciding.{plain_decides, kept_or_blamed}
 use Rattle.piled_scheme.proofs.Piles.{Carried}
 
 pub no_more : (n : ℕ) → n ≡ n + 0
@@ -36,6 +36,7 @@ no_more n = omega arith
 pub record Speech (setting : Setting) (l : Layout) (procs : List Proc) (casts : List TypeCast) (m : Measures)
     : Type 1 where
   pub Filling : ℕ → Type 0
+  pub grown_number : (n : ℕ) → Filling n → Filling (n + 0)
   pub Carries : FlatValue TypeCast → ℕ → Type 0
   pub Going : ℕ → Aim piled_meaning setting l procs casts m
   pub inside : List Code → Locals → Code → LowState
@@ -84,6 +85,7 @@ module _ (setting : Setting) (l : Layout) (procs : List Proc) (casts : List Type
     abbrev pub speech : Speech setting l procs casts m
     speech = record {
       Filling = λ n. FilledAt n s;
+      grown_number = λ n filled. subst (λ k. FilledAt k s) (no_more n) filled;
       Carries = C;
       Going = GoesOn;
       inside = λ rests locals code. at s.world (heap_of s) s.waiting 6 rests locals code;

@@ -46,7 +46,7 @@ use Rattle.piled_scheme.specs.Codes.{read_proc, in_vector}
 use Rattle.piled_scheme.specs.Piling.{piled_meaning}
 use Rattle.piled_scheme.proofs.Laws.{piled_laws}
 use Rattle.piled_scheme.proofs.Looking.{calm as calm_of, ends, loads_header}
-use Rattle.piled_scheme.proofs.Turns.{FilledAt, CellsAt, C, returned, no_more, speech}
+use Rattle.piled_scheme.proofs.Turns.{FilledAt, CellsAt, C, returned, speech}
 use Rattle.piled_scheme.proofs.Walking.{Way, goal, walks, traps}
 
 pub element_inside : {A : Type 0} (xs : List A) (i : ℕ) (x : A) → slice_get xs i ≡ Some x → i < length xs
@@ -72,7 +72,7 @@ module _ (setting : Setting) (l : Layout) (procs : List Proc) (casts : List Type
     (objects : List Object) (store : FlatStore TypeCast)
     (cells : CellsAt setting l procs casts m s places objects store s) (base : List (FlatFrame TypeCast)) where
   open (speech setting l procs casts m s places objects store base operator_leaves)
-      use {Filling, Carries, Going, inside}
+      use {Filling, grown_number, Carries, Going, inside}
 
   abbrev pub Operates : ℕ → FlatAfter TypeCast → ℕ → ℕ → LowState → Type 0
   Operates i x credit n v =
@@ -81,9 +81,6 @@ module _ (setting : Setting) (l : Layout) (procs : List Proc) (casts : List Type
 
   abbrev pub turn : PrimOp → List (FlatValue TypeCast) → FlatAfter TypeCast
   turn operator vs = flat_operate procs (piling l.types casts) store s.world operator vs base
-
-  pub grown_number : (n : ℕ) → Filling n → Filling (n + 0)
-  grown_number n filled = subst Filling (no_more n) filled
 
   -- ---- a vector in the region
 

@@ -1,7 +1,7 @@
 -- How procedures of this scheme walk in a turn of the numbered procedures: steps of their own, within the turn's
 -- budget, and where they end.
 use Rattle.std.proofs.Common.{◌≡◌, inl, ℕ, ◌+◌, ◌*◌, ◌-◌, ◌≤◌, true, List, []}
-use Rattle.std.proofs.Common.{length, Some, refl, ap, ◌∙◌, arith, slice_get}
+use Rattle.std.proofs.Common.{length, Some, refl, sym, ap, ◌∙◌, subst, arith, slice_get}
 use Rattle.std.specs.Prelude.{◌==◌, ◌&&◌, nat_le, if◌then◌else◌}
 use Rattle.grift_base.specs.declared.environment.TheConstants.{BLAME_CALL}
 use Rattle.grift_base.specs.World.{WorldState}
@@ -30,6 +30,10 @@ use Rattle.lower.proofs.Public.{By, by_go, by_weaken, calls_blame, in_front}
 use Rattle.lower.proofs.Public.{at, Comes, Calm, Goal, left_of, goes_last, lt_true}
 use Rattle.piled_scheme.specs.Piling.{piled_meaning}
 
+-- storage, the world and what waits are as in another state
+abbrev pub IsQuiet : LowState → LowState → Type 0
+IsQuiet s te = (heap_of te ≡ heap_of s) × (te.world ≡ s.world) × (te.waiting ≡ s.waiting) × (te.active.count ≤ 24)
+
 module _ (setting : Setting) (l : Layout) (procs : List Proc) (casts : List TypeCast) (m : Measures)
     (s : LowState) where
   abbrev pub Way : LowState → ℕ → ℕ → ℕ → LowState → Type 0
@@ -51,6 +55,12 @@ module _ (setting : Setting) (l : Layout) (procs : List Proc) (casts : List Type
     room = room_of u waits few;
     asked = asked;
   }
+
+  pub quiet_way : (objects : List Object) (te : LowState) → IsQuiet s te → (n : ℕ)
+      → Filled piled_meaning setting l n objects (heap_of s) → Way te 0 n n te
+  quiet_way objects te q n filled =
+      on_way te te 0 n n objects (subst (Filled piled_meaning setting l n objects) (sym q.0) filled) q.1 q.2 q.3
+      (omega arith)
 
   -- so it is wherever a procedure of 24 words at most is, over the same storage
   pub calm_at : (t : LowState) (asks n n' : ℕ) (Q : Goal) (objects : List Object) (h : Heap)

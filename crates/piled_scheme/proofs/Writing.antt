@@ -25,20 +25,19 @@ use Rattle.flat_ir.specs.Machine.{flat_operate}
 use Rattle.low_ir.specs.Codes.{blame_code}
 use Rattle.rt_cast.specs.States.{Placed, heap_of}
 use Rattle.lower.specs.SchemeLaws.{After, StopsNow, Walks, operator_leaves}
-use Rattle.lower.specs.Storage.{Filled}
 use Rattle.lower.proofs.Public.{as_many}
 use Rattle.lower.proofs.Public.{cell_of, there_is}
 use Rattle.lower.proofs.Public.{at, here, if_true, if_false, stores, left_of}
 use Rattle.piled_scheme.specs.Codes.{set_proc, write_proc}
-use Rattle.piled_scheme.specs.Piling.{IsWrapped, piled_meaning, wrapper_object, wrapper_header, most_labels}
-use Rattle.piled_scheme.proofs.Deciding.{IsPlain, written_cast, written_plain, writes_by}
+use Rattle.piled_scheme.specs.Piling.{IsPlain, IsWrapped, piled_meaning, wrapper_object, wrapper_header, most_labels}
+use Rattle.piled_scheme.proofs.Deciding.{written_cast, written_plain, writes_by}
 use Rattle.piled_scheme.proofs.Laws.{piled_laws}
 use Rattle.piled_scheme.proofs.Looking.{Walk, walk, loads_word, looked, blamed}
 use Rattle.piled_scheme.proofs.Piles.{Carried, peeled}
 use Rattle.piled_scheme.proofs.Reading.{tested, is_some}
 use Rattle.piled_scheme.proofs.Storing.{after, may, end, wrote}
 use Rattle.piled_scheme.proofs.Turns.{FilledAt, CellsAt, C, plain_turn, keeps, blames_it, no_more, speech}
-use Rattle.piled_scheme.proofs.Walking.{Way, room_of, on_way, walks, stays, tail_calls, blames}
+use Rattle.piled_scheme.proofs.Walking.{quiet_way, room_of, walks, stays, tail_calls, blames}
 
 module _ (setting : Setting) (l : Layout) (procs : List Proc) (casts : List TypeCast) (m : Measures)
     (placed : Placed setting l) (begins : l.region ≡ setting.region) (own : ℕ)
@@ -47,7 +46,7 @@ module _ (setting : Setting) (l : Layout) (procs : List Proc) (casts : List Type
     (cells : CellsAt setting l procs casts m s places objects store s) (base : List (FlatFrame TypeCast))
     (u : FlatValue TypeCast) (wu : ℕ) (carried : C setting l procs casts m s places objects store u wu) where
   open (speech setting l procs casts m s places objects store base operator_leaves)
-      use {Filling, Carries, Going, inside}
+      use {Filling, grown_number, Carries, Going, inside}
 
   -- the procedure begins with an address
   abbrev writes_at : ℕ → LowState
@@ -107,15 +106,6 @@ module _ (setting : Setting) (l : Layout) (procs : List Proc) (casts : List Type
   -- what is left to pay where it begins
   cost : (w : ℕ) → left_of setting (writes_at w) ≤ 300
   cost w = let z = ap entering_some there in omega (arith, z)
-
-  here_on_way : (v : LowState) (n : ℕ) → Filling n → heap_of v ≡ heap_of s → v.world ≡ s.world
-      → v.waiting ≡ s.waiting → v.active.count ≤ 24 → Way setting l procs casts m s v 0 n n v
-  here_on_way v n filled same world waits few =
-      on_way setting l procs casts m s v v 0 n n objects
-      (subst (Filled piled_meaning setting l n objects) (sym same) filled) world waits few (omega arith)
-
-  grown_number : (n : ℕ) → Filling n → Filling (n + 0)
-  grown_number n filled = subst Filling (no_more n) filled
 
   abbrev pub Operates : ℕ → FlatAfter TypeCast → ℕ → ℕ → LowState → Type 0
   Operates i x credit n v =
@@ -229,7 +219,7 @@ module _ (setting : Setting) (l : Layout) (procs : List Proc) (casts : List Type
       suc (suc r.0),
       λ n filled credit. (
         tt,
-        here_on_way (writes_at w) n filled refl refl refl (omega arith),
+        quiet_way setting l procs casts m s objects (writes_at w) (refl, refl, refl, omega arith) n filled,
         plain_turn setting l procs casts m s places objects store base operator_leaves first part plain (suc r.0)
             (PrimFrame BoxSet (v ∷ []) ∷ base) u credit n (writes_at w)
             (keeps setting l procs casts m s places objects store base operator_leaves first part plain none (suc r.0)
@@ -242,7 +232,8 @@ module _ (setting : Setting) (l : Layout) (procs : List Proc) (casts : List Type
                   filled w inner (subst (λ p. There l objects w (wrapper_object inner p)) none peeled_off.2.there)
                   (λ credit le. (
                     tt,
-                    here_on_way (writes_at inner) (n + 0) (grown_number n filled) refl refl refl (omega arith),
+                    quiet_way setting l procs casts m s objects (writes_at inner) (refl, refl, refl, omega arith)
+                        (n + 0) (grown_number n filled),
                     r.1 (n + 0) (grown_number n filled) credit,
                   )))
                   (let y = cost w in omega (arith, y)),
@@ -255,7 +246,7 @@ module _ (setting : Setting) (l : Layout) (procs : List Proc) (casts : List Type
       suc 0,
       λ n filled credit. (
         tt,
-        here_on_way (writes_at w) n filled refl refl refl (omega arith),
+        quiet_way setting l procs casts m s objects (writes_at w) (refl, refl, refl, omega arith) n filled,
         plain_turn setting l procs casts m s places objects store base operator_leaves first part plain 0
             (PrimFrame BoxSet (v ∷ []) ∷ base) u credit n (writes_at w)
             (blames_it setting l procs casts m s places objects store base operator_leaves first part plain some 0

@@ -11,6 +11,7 @@ use Rattle.rt_refs.specs.CellCodes.{asks_box, asks_length}
 use Rattle.rt_refs.specs.FillCodes.{fill_loop, fill_proc}
 use Rattle.rt_refs.specs.Quotients.{arithmetic_procs}
 use Rattle.lower.specs.declared.served.Served.{Served}
+use Rattle.lower.specs.Sets.{numbered_from}
 use Rattle.piled_scheme.specs.Piling.{wrapper_kind, wrapper_header}
 
 -- word 3 is one more than the label that is blamed
@@ -99,15 +100,4 @@ piled_procs first =
     ∷ fill_loop (6 + first) ∷ unbox_proc (7 + first) ∷ set_proc (8 + first) ∷ arithmetic_procs (9 + first)
 
 abbrev pub piled_numbers : ℕ → Served
-piled_numbers first = record {
-  cast = first;
-  project = 1 + first;
-  apply = 2 + first;
-  read = 3 + first;
-  write = 4 + first;
-  fill = 5 + first;
-  multiply = 11 + first;
-  divide = 12 + first;
-  cast_at = [];
-  ways = [];
-}
+piled_numbers first = numbered_from first (11 + first) (12 + first)

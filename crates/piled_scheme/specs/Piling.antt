@@ -7,7 +7,7 @@ use Rattle.grift_base.specs.Types.{row_at, same_head, is_base}
 use Rattle.grift_base.specs.declared.words.Statics.{Statics}
 use Rattle.object_layout.specs.declared.kinds.Kind.TheVariants.{Boxed}
 use Rattle.object_layout.specs.Kinds.{kind_number}
-use Rattle.cast_modes.specs.Modes.{TypeCast, piling}
+use Rattle.cast_modes.specs.Modes.{TypeCast, type_cast, piling}
 use Rattle.coercion_norm.specs.Objects.{Object, Fixed, Cell}
 use Rattle.coercion_norm.specs.Held.{Layout, There}
 use Rattle.coercion_norm.specs.Nodes.{Node}
@@ -87,20 +87,24 @@ wrapper_header = header wrapper_kind 0 2
 abbrev pub wrapper_object : ℕ → ℕ → Object
 wrapper_object inner part = Fixed wrapper_header (inner ∷ part ∷ [])
 
--- a cast between boxes, and what is done with what is read and written
-pub record IsBoxCast (types : TypeRows) (cast : TypeCast) (part : ℕ) : Type 0 where
-  pub content : ℕ
-  pub wanted : ℕ
+-- a cast between known types without parts, and what it does
+pub record IsPlain (types : TypeRows) (cast : TypeCast) (part : ℕ) : Type 0 where
   pub inner : TypeRow
   pub outer : TypeRow
-  pub from_is : row_at types cast.from ≡ Some (RefRow content)
-  pub to_is : row_at types cast.to ≡ Some (RefRow wanted)
-  pub content_is : row_at types content ≡ Some inner
-  pub wanted_is : row_at types wanted ≡ Some outer
+  pub from_is : row_at types cast.from ≡ Some inner
+  pub to_is : row_at types cast.to ≡ Some outer
   pub plain : is_base inner ≡ true
   pub plain_outer : is_base outer ≡ true
   pub part_is : part ≡ fate inner outer cast.label
   pub small : cast.label < most_labels
+
+-- a cast between boxes, and what is done with what is read and written
+pub record IsBoxCast (types : TypeRows) (cast : TypeCast) (part : ℕ) : Type 0 where
+  pub content : ℕ
+  pub wanted : ℕ
+  pub from_is : row_at types cast.from ≡ Some (RefRow content)
+  pub to_is : row_at types cast.to ≡ Some (RefRow wanted)
+  pub reading : IsPlain types (type_cast content cast.label wanted) part
 
 -- one wrapper, over what stands at the first address
 pub record IsWrapped (l : Layout) (objects : List Object) (cast : TypeCast) (inner w : ℕ) : Type 0 where

@@ -15,13 +15,14 @@ use grift_base::made::both;
 use grift_base::verdicts::Trap;
 use low_ir::code::LowSource::{Number, Word};
 use low_ir::code::{LowCode, LowSource, WordOp};
-use low_ir::codes::{blame, build, compute, either, load, set, tail_call, trap};
+use low_ir::codes::{
+    blame, build, compute, either, load, proc, set, store, tail_call, trap, with_proc,
+};
 use low_ir::programs::{LowProc, LowProcs};
 use machine_words::conditions::Cond;
 use object_layout::words::{COUNT_SHIFT, COUNT_UNIT, WORD_SHIFT};
 use rt_cast::codes::{load_kind, unless_zero};
 use rt_refs::cells::{ASKS_BOX, ASKS_LENGTH};
-use rt_refs::codes::{proc, store, with_proc};
 use rt_refs::fills::{fill_loop, fill_proc};
 use rt_refs::procs::with_arithmetic;
 use std::alloc::Global;

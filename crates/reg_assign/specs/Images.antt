@@ -18,7 +18,7 @@ use Rattle.rv_machine.specs.Real.{mark_address}
 use Rattle.low_ir.specs.Procedures.{Proc}
 use Rattle.low_ir.specs.Counting.{any_calls}
 use Rattle.low_ir.specs.Prices.{low_price}
-use Rattle.low_ir.specs.Run.{Setting as LowSetting, LowState, LowShown, low_machine, low_start}
+use Rattle.low_ir.specs.Run.{LowState, LowShown, low_machine, low_start}
 use Rattle.assembler.specs.Assembled.{item_address, IsImageOf}
 use Rattle.rv_select.specs.declared.convention.TheConstants.{STACK_POINTER, STACK_END, ALLOCATION, REGION_END}
 use Rattle.rv_select.specs.declared.code.Place.{Place}
@@ -26,6 +26,7 @@ use Rattle.rv_select.specs.Prices.{start_price}
 use Rattle.rv_select.specs.Select.{select_items, registers_of}
 use Rattle.rv_select.specs.Stacks.{frame_size, frames_size, low_in_stack}
 use Rattle.reg_assign.specs.Slotted.{room_in}
+pub use Rattle.reg_assign.specs.Slotted.{words_setting}
 use Rattle.reg_assign.specs.Places.{place_in}
 use Rattle.reg_assign.specs.Applied.{applied}
 use Rattle.reg_assign.specs.Room.{IsBest}
@@ -34,16 +35,6 @@ use Rattle.reg_assign.specs.Room.{IsBest}
 -- registers have these places
 abbrev pub words_code : List Place → List Proc → ℕ → List RealItem
 words_code places procs entry = applied (place_in places) (select_items entry procs)
-
--- what a run over words is told where the machine is in its start state: the code addresses of the procedures
-abbrev pub words_setting : List Proc → (ℕ → ℕ) → State → LowSetting
-words_setting procs told s = record {
-  procs = procs;
-  address = told;
-  labels = s.layout.labels;
-  region = s.layout.region;
-  top = s.regs STACK_END;
-}
 
 -- the machine's state has the region that the run over words shows: the memory below the allocation word, which is x26;
 -- in x25 and x27 stands the region's end. x2 isn't below that, and from it to the stack's end there are no more

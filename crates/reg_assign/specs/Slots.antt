@@ -30,16 +30,16 @@ use Rattle.rv_select.specs.declared.code.VirtualItem.TheVariants.{TailCall, Tail
 
 -- the instruction of an operation
 abbrev pub op_inst : WordOp → ℕ → ℕ → ℕ → Inst
-op_inst Add rd a b = AddInst rd a b
-op_inst Sub rd a b = SubInst rd a b
-op_inst And rd a b = AndInst rd a b
-op_inst Or rd a b = OrInst rd a b
-op_inst Xor rd a b = XorInst rd a b
-op_inst Sll rd a b = SllInst rd a b
-op_inst Srl rd a b = SrlInst rd a b
-op_inst Sra rd a b = SraInst rd a b
-op_inst Slt rd a b = SltInst rd a b
-op_inst Sltu rd a b = SltuInst rd a b
+op_inst Add = AddInst
+op_inst Sub = SubInst
+op_inst And = AndInst
+op_inst Or = OrInst
+op_inst Xor = XorInst
+op_inst Sll = SllInst
+op_inst Srl = SrlInst
+op_inst Sra = SraInst
+op_inst Slt = SltInst
+op_inst Sltu = SltuInst
 
 -- the negative of a number
 abbrev pub negated : ℕ → ℤ

@@ -19,6 +19,9 @@ use Rattle.assembler.specs.Conditions.{registers_named, CanBeAssembled}
 use Rattle.rv_select.specs.declared.convention.TheConstants.{STACK_POINTER, STACK_END, ALLOCATION, REGION_END}
 use Rattle.rv_select.specs.declared.code.VirtualItem.{VirtualItem}
 use Rattle.rv_select.specs.declared.code.VirtualItem.TheVariants.{Procedure}
+use Rattle.low_ir.specs.Procedures.{Proc}
+use Rattle.low_ir.specs.Run.{Setting as LowSetting}
+use Rattle.rv_select.specs.Selected.{setting_of}
 use Rattle.rv_select.specs.Run.{Setting, VirtualState, Shown, virtual_machine, virtual_start}
 use Rattle.rv_select.specs.Marks.{marks, Distinct}
 use Rattle.rv_select.specs.WellFormed.{IsWellFormed}
@@ -74,15 +77,19 @@ pub record Starts (items : List VirtualItem) (code : List RealItem) (setting : R
   pub fits : (r : ℕ) → s.regs r < 2 ^ 64
   pub bytes : (at : ℕ) → s.memory at < 256
 
--- what the virtual run is told there
-abbrev pub setting_in : List VirtualItem → (ℕ → ℕ) → State → Setting
-setting_in items told s = record {
-  items = items;
+-- what a run over words is told where the machine is in that state: the code addresses of the procedures
+abbrev pub words_setting : List Proc → (ℕ → ℕ) → State → LowSetting
+words_setting procs told s = record {
+  procs = procs;
   address = told;
   labels = s.layout.labels;
   region = s.layout.region;
   top = s.regs STACK_END;
 }
+
+-- what the virtual run is told there, which has items in place of procedures
+abbrev pub setting_in : List VirtualItem → (ℕ → ℕ) → State → Setting
+setting_in items told s = setting_of (words_setting [] told s) items
 
 -- the bytes of the stack
 abbrev pub room_in : State → ℕ

@@ -24,6 +24,9 @@ use rv_select::convention::{
     ALLOCATION, CALL_NUMBER, FIRST_SPILL, LINK, SECOND_SPILL, STACK_END, STACK_POINTER, ZERO,
 };
 
+/// What comes of putting items behind others: want of memory, or else nothing.
+pub(crate) type Put = Result<(), OutOfMemory>;
+
 // A register, by its number.
 pub(crate) fn register(number: u8) -> Reg
     requires { number < 32 }
@@ -56,14 +59,14 @@ pub(crate) fn negated(number: u32) -> Imm12
 }
 
 // Adds an item.
-pub(crate) fn put_real(items: &mut RealItems, item: RealItem) -> Result<(), OutOfMemory>
+pub(crate) fn put_real(items: &mut RealItems, item: RealItem) -> Put
     ensures { OnOk result (items.new ≡ items.old ++ item ∷ []) }
 {
     items.extend(&[item])
 }
 
 // Adds an instruction.
-pub(crate) fn put(items: &mut RealItems, i: Inst) -> Result<(), OutOfMemory>
+pub(crate) fn put(items: &mut RealItems, i: Inst) -> Put
     ensures { OnOk result (items.new ≡ items.old ++ Op i ∷ []) }
 {
     put_real(items, RealItem::Op(i))
@@ -80,7 +83,7 @@ fn chunk(word: u64, k: u32) -> Imm12
 }
 
 // Adds what moves the word in a register up by eleven bits, and adds these.
-fn put_chunk(items: &mut RealItems, rd: Reg, chunk: Imm12) -> Result<(), OutOfMemory>
+fn put_chunk(items: &mut RealItems, rd: Reg, chunk: Imm12) -> Put
     ensures { OnOk result (items.new ≡ items.old ++ Op (Slli rd rd 11) ∷ Op (Addi rd rd chunk) ∷ []) }
 {
     put(items, Inst::Slli(rd, rd, Shift6::new(11)))?;
@@ -116,7 +119,7 @@ fn lower(word: u64) -> Imm12
 }
 
 // Adds what puts a word into a register eleven bits at a time.
-fn put_chunks(items: &mut RealItems, rd: Reg, word: u64) -> Result<(), OutOfMemory>
+fn put_chunks(items: &mut RealItems, rd: Reg, word: u64) -> Put
     ensures { OnOk result (items.new ≡ items.old ++ Op (Addi rd 0 (pos (chunk_of word 5))) ∷ chunk_items rd word 5) }
 {
     put(items, Inst::Addi(rd, register(ZERO), chunk(word, 5)))?;
@@ -129,7 +132,7 @@ fn put_chunks(items: &mut RealItems, rd: Reg, word: u64) -> Result<(), OutOfMemo
 }
 
 // Adds what puts a word into a register, where it isn't below 2048.
-fn put_long(items: &mut RealItems, rd: Reg, word: u64) -> Result<(), OutOfMemory>
+fn put_long(items: &mut RealItems, rd: Reg, word: u64) -> Put
     ensures { OnOk result (items.new ≡ items.old ++ long_items rd word) }
 {
     if is_half(word) {
@@ -141,7 +144,7 @@ fn put_long(items: &mut RealItems, rd: Reg, word: u64) -> Result<(), OutOfMemory
 }
 
 // Adds what puts a word into a register.
-pub(crate) fn put_word(items: &mut RealItems, rd: Reg, word: u64) -> Result<(), OutOfMemory>
+pub(crate) fn put_word(items: &mut RealItems, rd: Reg, word: u64) -> Put
     ensures { OnOk result (items.new ≡ items.old ++ word_items rd word) }
 {
     if word < 2048 {
@@ -179,7 +182,7 @@ pub(crate) fn register_for(scratch: u8, a: &VReg) -> Reg
 }
 
 // Adds what loads a register from the slot at an offset.
-fn put_slot_fetch(items: &mut RealItems, rd: Reg, offset: u64) -> Result<(), OutOfMemory>
+fn put_slot_fetch(items: &mut RealItems, rd: Reg, offset: u64) -> Put
     ensures { OnOk result (items.new ≡ items.old ++ slot_fetch rd offset) }
 {
     if offset < 2048 {
@@ -191,7 +194,7 @@ fn put_slot_fetch(items: &mut RealItems, rd: Reg, offset: u64) -> Result<(), Out
 }
 
 // Adds what stores a register in the slot at an offset.
-fn put_slot_save_of(items: &mut RealItems, word: Reg, offset: u64) -> Result<(), OutOfMemory>
+fn put_slot_save_of(items: &mut RealItems, word: Reg, offset: u64) -> Put
     ensures { OnOk result (items.new ≡ items.old ++ slot_save_of word offset) }
 {
     if offset < 2048 {
@@ -207,19 +210,14 @@ fn put_slot_save_of(items: &mut RealItems, word: Reg, offset: u64) -> Result<(),
 }
 
 // Adds what stores x28 there.
-fn put_slot_save(items: &mut RealItems, offset: u64) -> Result<(), OutOfMemory>
+fn put_slot_save(items: &mut RealItems, offset: u64) -> Put
     ensures { OnOk result (items.new ≡ items.old ++ slot_save offset) }
 {
     put_slot_save_of(items, register(FIRST_SPILL), offset)
 }
 
 // Adds what loads a virtual register into a real one.
-pub(crate) fn put_fetch(
-    items: &mut RealItems,
-    first: u32,
-    scratch: u8,
-    a: &VReg,
-) -> Result<(), OutOfMemory>
+pub(crate) fn put_fetch(items: &mut RealItems, first: u32, scratch: u8, a: &VReg) -> Put
     requires { scratch < 32 }
     ensures { OnOk result (items.new ≡ items.old ++ fetch_items first scratch a.now) }
 {
@@ -234,7 +232,7 @@ pub(crate) fn put_fetch(
 }
 
 // Adds what stores a virtual register that was put into x28.
-pub(crate) fn put_save(items: &mut RealItems, first: u32, rd: &VReg) -> Result<(), OutOfMemory>
+pub(crate) fn put_save(items: &mut RealItems, first: u32, rd: &VReg) -> Put
     ensures { OnOk result (items.new ≡ items.old ++ save_items first rd.now) }
 {
     match rd {
@@ -244,7 +242,7 @@ pub(crate) fn put_save(items: &mut RealItems, first: u32, rd: &VReg) -> Result<(
 }
 
 // Adds what puts a number into a slot.
-fn put_in_slot(items: &mut RealItems, offset: u64, word: u64) -> Result<(), OutOfMemory>
+fn put_in_slot(items: &mut RealItems, offset: u64, word: u64) -> Put
     ensures { OnOk result (items.new ≡ items.old ++ (word_items FIRST_SPILL word ++ slot_save offset)) }
 {
     put_word(items, register(FIRST_SPILL), word)?;
@@ -252,12 +250,7 @@ fn put_in_slot(items: &mut RealItems, offset: u64, word: u64) -> Result<(), OutO
 }
 
 // Adds what puts a number where it belongs.
-pub(crate) fn put_constant(
-    items: &mut RealItems,
-    first: u32,
-    rd: &VReg,
-    word: u64,
-) -> Result<(), OutOfMemory>
+pub(crate) fn put_constant(items: &mut RealItems, first: u32, rd: &VReg, word: u64) -> Put
     ensures { OnOk result (items.new ≡ items.old ++ constant_items first rd.now word) }
 {
     match rd {
@@ -274,7 +267,7 @@ pub(crate) fn put_constant(
 }
 
 // Adds what moves a word from a slot into a real register.
-fn put_from_slot(items: &mut RealItems, r: Reg, offset: u64) -> Result<(), OutOfMemory>
+fn put_from_slot(items: &mut RealItems, r: Reg, offset: u64) -> Put
     ensures { OnOk result (items.new ≡ items.old
         ++ (if r == ALLOCATION then slot_fetch FIRST_SPILL offset ++ (Op (Addi r FIRST_SPILL (pos 0)) ∷ [])
         else slot_fetch r offset)) }
@@ -288,21 +281,21 @@ fn put_from_slot(items: &mut RealItems, r: Reg, offset: u64) -> Result<(), OutOf
 }
 
 // Adds what loads x28 from the slot of a virtual register.
-fn put_first_fetch(items: &mut RealItems, first: u32, number: u32) -> Result<(), OutOfMemory>
+fn put_first_fetch(items: &mut RealItems, first: u32, number: u32) -> Put
     ensures { OnOk result (items.new ≡ items.old ++ slot_fetch FIRST_SPILL (slot_offset first number)) }
 {
     put_slot_fetch(items, register(FIRST_SPILL), slot_offset(first, number))
 }
 
 // Adds what stores x28 there.
-fn put_first_save(items: &mut RealItems, first: u32, number: u32) -> Result<(), OutOfMemory>
+fn put_first_save(items: &mut RealItems, first: u32, number: u32) -> Put
     ensures { OnOk result (items.new ≡ items.old ++ slot_save (slot_offset first number)) }
 {
     put_slot_save(items, slot_offset(first, number))
 }
 
 // Adds what moves a word from a slot to another.
-fn put_across(items: &mut RealItems, first: u32, from: u32, to: u32) -> Result<(), OutOfMemory>
+fn put_across(items: &mut RealItems, first: u32, from: u32, to: u32) -> Put
     ensures { OnOk result (items.new ≡ items.old
         ++ (slot_fetch FIRST_SPILL (slot_offset first from) ++ slot_save (slot_offset first to))) }
 {
@@ -311,7 +304,7 @@ fn put_across(items: &mut RealItems, first: u32, from: u32, to: u32) -> Result<(
 }
 
 // Adds what moves a word into a real register.
-fn put_to_real(items: &mut RealItems, first: u32, r: Reg, a: &VReg) -> Result<(), OutOfMemory>
+fn put_to_real(items: &mut RealItems, first: u32, r: Reg, a: &VReg) -> Put
     ensures { OnOk result (items.new ≡ items.old ++ move_items first (VReg.Real r) a.now) }
 {
     match a {
@@ -327,7 +320,7 @@ fn put_to_real(items: &mut RealItems, first: u32, r: Reg, a: &VReg) -> Result<()
 }
 
 // Adds what moves a word into a slot.
-fn put_to_slot(items: &mut RealItems, first: u32, number: u32, a: &VReg) -> Result<(), OutOfMemory>
+fn put_to_slot(items: &mut RealItems, first: u32, number: u32, a: &VReg) -> Put
     ensures { OnOk result (items.new ≡ items.old ++ move_items first (VReg.Virtual number) a.now) }
 {
     match a {
@@ -337,12 +330,7 @@ fn put_to_slot(items: &mut RealItems, first: u32, number: u32, a: &VReg) -> Resu
 }
 
 // Adds what moves a word.
-pub(crate) fn put_move(
-    items: &mut RealItems,
-    first: u32,
-    rd: &VReg,
-    a: &VReg,
-) -> Result<(), OutOfMemory>
+pub(crate) fn put_move(items: &mut RealItems, first: u32, rd: &VReg, a: &VReg) -> Put
     ensures { OnOk result (items.new ≡ items.old ++ move_items first rd.now a.now) }
 {
     match rd {
@@ -354,7 +342,7 @@ pub(crate) fn put_move(
 // ---- frames
 
 // Adds what makes a frame with so many slots, told the mark behind which the stack lacks room.
-pub(crate) fn put_enter(items: &mut RealItems, out: u32, count: u32) -> Result<(), OutOfMemory>
+pub(crate) fn put_enter(items: &mut RealItems, out: u32, count: u32) -> Put
     ensures { OnOk result (items.new ≡ items.old ++ enter_items out count) }
 {
     let size = register(FIRST_SPILL);
@@ -368,7 +356,7 @@ pub(crate) fn put_enter(items: &mut RealItems, out: u32, count: u32) -> Result<(
 }
 
 // Adds what raises x2 by so many bytes.
-fn put_raise(items: &mut RealItems, bytes: u64) -> Result<(), OutOfMemory>
+fn put_raise(items: &mut RealItems, bytes: u64) -> Put
     ensures { OnOk result (items.new ≡ items.old ++ raise_items bytes) }
 {
     let size = register(FIRST_SPILL);
@@ -381,7 +369,7 @@ fn put_raise(items: &mut RealItems, bytes: u64) -> Result<(), OutOfMemory>
 }
 
 // Adds what loads the link and gives up a frame with so many slots.
-pub(crate) fn put_leave(items: &mut RealItems, count: u32) -> Result<(), OutOfMemory>
+pub(crate) fn put_leave(items: &mut RealItems, count: u32) -> Put
     ensures { OnOk result (items.new ≡ items.old ++ leave_items count) }
 {
     put(
@@ -392,7 +380,7 @@ pub(crate) fn put_leave(items: &mut RealItems, count: u32) -> Result<(), OutOfMe
 }
 
 // Adds what stops the machine where the stack lacks room.
-pub(crate) fn put_final(items: &mut RealItems, out: u32) -> Result<(), OutOfMemory>
+pub(crate) fn put_final(items: &mut RealItems, out: u32) -> Put
     ensures { OnOk result (items.new ≡ items.old ++ final_items out) }
 {
     put_real(items, RealItem::Mark(out))?;

@@ -10,8 +10,8 @@ ghost use Rattle.rv_machine.specs.declared.real.RealItem.TheVariants.{Op};
 ghost use Rattle.rv_select.specs.declared.convention.TheConstants.{FIRST_SPILL};
 
 use crate::slot_parts::{
-    negated, put, put_constant, put_enter, put_fetch, put_final, put_leave, put_move, put_real,
-    put_save, register, register_for, small,
+    Put, negated, put, put_constant, put_enter, put_fetch, put_final, put_leave, put_move,
+    put_real, put_save, register, register_for, small,
 };
 use grift_base::lists::OutOfMemory;
 use low_ir::code::WordOp;
@@ -63,14 +63,7 @@ fn op_with(op: WordOp, rd: Reg, a: Reg, number: u32) -> Inst
 // ---- items that compute, load and store
 
 // Adds what an operation on two registers becomes.
-fn put_compute(
-    items: &mut RealItems,
-    first: u32,
-    op: WordOp,
-    rd: &VReg,
-    a: &VReg,
-    b: &VReg,
-) -> Result<(), OutOfMemory>
+fn put_compute(items: &mut RealItems, first: u32, op: WordOp, rd: &VReg, a: &VReg, b: &VReg) -> Put
     ensures { OnOk result (items.new ≡ items.old ++ expand 0 first 0 (VirtualItem.Compute op rd.now a.now b.now)) }
 {
     put_fetch(items, first, FIRST_SPILL, a)?;
@@ -86,13 +79,7 @@ fn put_compute(
 }
 
 // Adds an instruction that reads one register and writes another, between what loads the one and what stores the other.
-fn put_between(
-    items: &mut RealItems,
-    first: u32,
-    rd: &VReg,
-    a: &VReg,
-    i: Inst,
-) -> Result<(), OutOfMemory>
+fn put_between(items: &mut RealItems, first: u32, rd: &VReg, a: &VReg, i: Inst) -> Put
     ensures { OnOk result (items.new ≡ items.old ++ (fetch_items first FIRST_SPILL a.now
         ++ (Op i ∷ save_items first rd.now))) }
 {
@@ -109,7 +96,7 @@ fn put_compute_with(
     rd: &VReg,
     a: &VReg,
     number: u32,
-) -> Result<(), OutOfMemory>
+) -> Put
     requires { fits_item op number ≡ true }
     ensures { OnOk result (items.new ≡ items.old ++ expand 0 first 0 (VirtualItem.ComputeWith op rd.now a.now number)) }
 {
@@ -123,13 +110,7 @@ fn put_compute_with(
 }
 
 // Adds what a load becomes.
-fn put_load(
-    items: &mut RealItems,
-    first: u32,
-    rd: &VReg,
-    a: &VReg,
-    offset: u32,
-) -> Result<(), OutOfMemory>
+fn put_load(items: &mut RealItems, first: u32, rd: &VReg, a: &VReg, offset: u32) -> Put
     requires { offset < 2048 }
     ensures { OnOk result (items.new ≡ items.old ++ expand 0 first 0 (VirtualItem.Load rd.now a.now offset)) }
 {
@@ -142,13 +123,7 @@ fn put_load(
 }
 
 // Adds what a store becomes.
-fn put_store(
-    items: &mut RealItems,
-    first: u32,
-    b: &VReg,
-    a: &VReg,
-    offset: u32,
-) -> Result<(), OutOfMemory>
+fn put_store(items: &mut RealItems, first: u32, b: &VReg, a: &VReg, offset: u32) -> Put
     requires { offset < 2048 }
     ensures { OnOk result (items.new ≡ items.old ++ expand 0 first 0 (VirtualItem.Store b.now a.now offset)) }
 {
@@ -163,7 +138,7 @@ fn put_store(
 }
 
 // Adds what the code address of a procedure becomes.
-fn put_address(items: &mut RealItems, first: u32, rd: &VReg, k: u32) -> Result<(), OutOfMemory>
+fn put_address(items: &mut RealItems, first: u32, rd: &VReg, k: u32) -> Put
     ensures { OnOk result (items.new ≡ items.old ++ expand 0 first 0 (VirtualItem.CodeOf rd.now k)) }
 {
     put_real(items, RealItem::Address(register_for(FIRST_SPILL, rd), k))?;
@@ -173,14 +148,7 @@ fn put_address(items: &mut RealItems, first: u32, rd: &VReg, k: u32) -> Result<(
 // ---- items that go elsewhere
 
 // Adds what a branch becomes.
-fn put_branch(
-    items: &mut RealItems,
-    first: u32,
-    cond: Cond,
-    a: &VReg,
-    b: &VReg,
-    mark: u32,
-) -> Result<(), OutOfMemory>
+fn put_branch(items: &mut RealItems, first: u32, cond: Cond, a: &VReg, b: &VReg, mark: u32) -> Put
     ensures { OnOk result (items.new ≡ items.old ++ expand 0 first 0 (VirtualItem.Branch cond a.now b.now mark)) }
 {
     put_fetch(items, first, FIRST_SPILL, a)?;
@@ -197,7 +165,7 @@ fn put_branch(
 }
 
 // Adds what a call of a code address becomes.
-fn put_call_at(items: &mut RealItems, first: u32, f: &VReg) -> Result<(), OutOfMemory>
+fn put_call_at(items: &mut RealItems, first: u32, f: &VReg) -> Put
     ensures { OnOk result (items.new ≡ items.old ++ expand 0 first 0 (VirtualItem.CallAt f.now 0)) }
 {
     put_fetch(items, first, FIRST_SPILL, f)?;
@@ -208,7 +176,7 @@ fn put_call_at(items: &mut RealItems, first: u32, f: &VReg) -> Result<(), OutOfM
 }
 
 // Adds what a tail call of a procedure with so many slots becomes.
-fn put_tail_call(items: &mut RealItems, count: u32, k: u32) -> Result<(), OutOfMemory>
+fn put_tail_call(items: &mut RealItems, count: u32, k: u32) -> Put
     ensures { OnOk result (items.new ≡ items.old ++ expand 0 0 count (VirtualItem.TailCall k 0)) }
 {
     put_leave(items, count)?;
@@ -216,12 +184,7 @@ fn put_tail_call(items: &mut RealItems, count: u32, k: u32) -> Result<(), OutOfM
 }
 
 // Adds what its tail call of a code address becomes.
-fn put_tail_call_at(
-    items: &mut RealItems,
-    first: u32,
-    count: u32,
-    f: &VReg,
-) -> Result<(), OutOfMemory>
+fn put_tail_call_at(items: &mut RealItems, first: u32, count: u32, f: &VReg) -> Put
     ensures { OnOk result (items.new ≡ items.old ++ expand 0 first count (VirtualItem.TailCallAt f.now 0)) }
 {
     put_fetch(items, first, SECOND_SPILL, f)?;
@@ -233,7 +196,7 @@ fn put_tail_call_at(
 }
 
 // Adds what its return becomes.
-fn put_return(items: &mut RealItems, count: u32) -> Result<(), OutOfMemory>
+fn put_return(items: &mut RealItems, count: u32) -> Put
     ensures { OnOk result (items.new ≡ items.old ++ expand 0 0 count VirtualItem.Return) }
 {
     put_leave(items, count)?;
@@ -241,7 +204,7 @@ fn put_return(items: &mut RealItems, count: u32) -> Result<(), OutOfMemory>
 }
 
 // Adds what the mark of a procedure with so many slots becomes, told the mark behind which the stack lacks room.
-fn put_procedure(items: &mut RealItems, out: u32, k: u32, count: u32) -> Result<(), OutOfMemory>
+fn put_procedure(items: &mut RealItems, out: u32, k: u32, count: u32) -> Put
     ensures items { OnOk result (items.new ≡ items.old ++ expand out 0 0 (VirtualItem.Procedure k 0 count)) }
     ensures few { count < 2 ^ 32 }
 {
@@ -250,13 +213,7 @@ fn put_procedure(items: &mut RealItems, out: u32, k: u32, count: u32) -> Result<
 }
 
 // Adds what an item becomes, told that mark, and the first register of the procedure and how many it has.
-fn put_item(
-    items: &mut RealItems,
-    out: u32,
-    first: u32,
-    count: u32,
-    item: &VirtualItem,
-) -> Result<(), OutOfMemory>
+fn put_item(items: &mut RealItems, out: u32, first: u32, count: u32, item: &VirtualItem) -> Put
     requires { fits item.now ≡ true }
     ensures items { OnOk result (items.new ≡ items.old ++ expand out first count item.now) }
     ensures few { HasFew item.now }
@@ -313,7 +270,7 @@ fn free_mark(items: &[VirtualItem]) -> Result<u32, OutOfMemory>
 }
 
 // Adds what items become one after another.
-fn put_items(real: &mut RealItems, out: u32, items: &[VirtualItem]) -> Result<(), OutOfMemory>
+fn put_items(real: &mut RealItems, out: u32, items: &[VirtualItem]) -> Put
     requires { each_fits items.now ≡ true }
     ensures items { OnOk result (real.new ≡ real.old ++ expand_all out 0 0 items.now) }
     ensures few { OnOk result (EachHasFew items.now) }

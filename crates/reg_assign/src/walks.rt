@@ -38,6 +38,9 @@ pub(crate) fn new_walk(alloc: Global, length: usize) -> Result<Walk, OutOfMemory
     })
 }
 
+/// What comes of going on: want of memory, or else nothing.
+pub(crate) type Walked = Result<(), OutOfMemory>;
+
 // The item at a place, if one stands there.
 pub(crate) fn item_at(items: &[VirtualItem], place: usize) -> Option<&VirtualItem>
     ensures { option_copied result ≡ slice_get items.now place }
@@ -46,7 +49,7 @@ pub(crate) fn item_at(items: &[VirtualItem], place: usize) -> Option<&VirtualIte
 }
 
 // Finds a place, if its item doesn't write the register and it wasn't found before.
-fn reach(walk: &mut Walk, items: &[VirtualItem], place: usize) -> Result<(), OutOfMemory>
+fn reach(walk: &mut Walk, items: &[VirtualItem], place: usize) -> Walked
     requires walk { IsWalk items.now walk.old }
     requires leads { Leads items.now (register_at walk.old.number) place }
     ensures walk { OnOk result (IsWalk items.now walk.new) }
@@ -66,7 +69,7 @@ fn reach(walk: &mut Walk, items: &[VirtualItem], place: usize) -> Result<(), Out
 }
 
 // Finds the place before one, if its item goes on at the next.
-fn reach_before(walk: &mut Walk, items: &[VirtualItem], place: usize) -> Result<(), OutOfMemory>
+fn reach_before(walk: &mut Walk, items: &[VirtualItem], place: usize) -> Walked
     requires walk { IsWalk items.now walk.old }
     requires needed { Needed items.now place (register_at walk.old.number) }
     ensures walk { OnOk result (IsWalk items.now walk.new) }
@@ -81,20 +84,14 @@ fn reach_before(walk: &mut Walk, items: &[VirtualItem], place: usize) -> Result<
     let Some(item) = items.get(place - 1) else {
         return Ok(());
     };
-    if has_next(item) {
-        reach(walk, items, place - 1)
-    } else {
-        Ok(())
+    if !has_next(item) {
+        return Ok(());
     }
+    reach(walk, items, place - 1)
 }
 
 // Finds the places of the items that go to the mark that stands at a place, if one does.
-fn reach_sources(
-    walk: &mut Walk,
-    items: &[VirtualItem],
-    flow: &Flow,
-    place: usize,
-) -> Result<(), OutOfMemory>
+fn reach_sources(walk: &mut Walk, items: &[VirtualItem], flow: &Flow, place: usize) -> Walked
     requires walk { IsWalk items.now walk.old }
     requires sources { IsListed IsTarget items.now (under flow.now.sources) }
     requires needed { Needed items.now place (register_at walk.old.number) }
@@ -117,12 +114,7 @@ fn reach_sources(
 }
 
 // Finds the places from which the walk comes to a place where the register is needed.
-fn expand(
-    walk: &mut Walk,
-    items: &[VirtualItem],
-    flow: &Flow,
-    place: usize,
-) -> Result<(), OutOfMemory>
+fn expand(walk: &mut Walk, items: &[VirtualItem], flow: &Flow, place: usize) -> Walked
     requires walk { IsWalk items.now walk.old }
     requires sources { IsListed IsTarget items.now (under flow.now.sources) }
     requires needed { Needed items.now place (register_at walk.old.number) }
@@ -137,12 +129,7 @@ fn expand(
 }
 
 /// Begins the walk for the register of a number, which isn't below that of an earlier one.
-pub(crate) fn begin(
-    walk: &mut Walk,
-    items: &[VirtualItem],
-    flow: &Flow,
-    number: usize,
-) -> Result<(), OutOfMemory>
+pub(crate) fn begin(walk: &mut Walk, items: &[VirtualItem], flow: &Flow, number: usize) -> Walked
     requires idle { IsIdle (length items.now) number walk.old }
     requires reads { IsListed IsRead items.now (under flow.now.reads) }
     requires sources { IsListed IsTarget items.now (under flow.now.sources) }

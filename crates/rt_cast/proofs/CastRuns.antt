@@ -23,7 +23,7 @@ use Rattle.coercion_norm.proofs.Public.{compose_height, coerce_height, compose_n
 use Rattle.coercion_norm.proofs.Public.{height_from_bound}
 use Rattle.rt_cast.specs.Costs.{compose_cost, cast_cost, cast_words, coerce_price}
 use Rattle.rt_cast.specs.Costs.{cast_price}
-use Rattle.object_layout.specs.declared.kinds.Kind.TheVariants.{Proxy, Dyn}
+use Rattle.object_layout.specs.declared.kinds.Kind.TheVariants.{Proxy}
 use Rattle.object_layout.specs.Kinds.{kind_number as number_of}
 use Rattle.coercion_norm.specs.Objects.{Object, Fixed, header_of}
 use Rattle.coercion_norm.specs.Held.{Layout, There, Held}
@@ -35,7 +35,7 @@ use Rattle.rt_cast.proofs.HeaderNumbers.{eq_true, eq_false, eq_cases, kind_read}
 use Rattle.rt_cast.proofs.Steps.{Budget, End, Out, Pay, More, return_price, at_most, WordThere, loads}
 use Rattle.rt_cast.proofs.Steps.{computes, if_true, if_false, builds, calls, tail_calls, comes_back, header_there}
 use Rattle.rt_cast.proofs.Steps.{loads_at, no_true, first_true, second_true}
-use Rattle.rt_cast.proofs.Small.{grows_not, grows_on, there_still, not_zero}
+use Rattle.rt_cast.proofs.Small.{grows_not, grows_on, there_still, not_zero, reads_kind}
 use Rattle.rt_cast.proofs.Small.{numbers, ReachedIn}
 use Rattle.rt_cast.proofs.Middles.{held_still, held_small, added, one_more}
 use Rattle.rt_cast.proofs.ComposeSteps.{type_still, no_middle, part_small}
@@ -187,12 +187,8 @@ module _ {V : Type 0} (walk : Walk V) (low : walk.l.tallest ≤ 65534) (A : Type
       (cast_code walk.first) [] waiting
       h)
   reads objects h fine waiting wv wc k y m ws there lt go =
-      let z = not_zero walk objects h fine wc (header k y m) ws there in
-      at_most walk
-      (if_false walk objects fine wc 0 refl refl (eq_false wc 0 (λ e. omega (arith, z.0)))
-      (loads walk objects fine wc (header k y m) ws 0 (header k y m) refl there refl refl refl
-      (computes walk objects fine (header k y m) kind_mask k refl refl (kind_read k y m lt) refl (go _))))
-      (omega arith, omega arith, omega arith, omega arith)
+      reads_kind walk objects h fine waiting [] (bind 0 (wv ∷ wc ∷ []) no_locals) 10 1 2 3 wc k y m ws refl there lt
+      refl refl refl refl refl refl go
 
   abbrev plain_cost : ℕ
   plain_cost = compose_cost walk.l.width n + 25

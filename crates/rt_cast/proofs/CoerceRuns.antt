@@ -60,6 +60,7 @@ use Rattle.rt_cast.proofs.Walks.{Walk}
 use Rattle.rt_cast.proofs.Objects.{inject_header, project_header}
 use Rattle.rt_cast.specs.ComposeCodes.{coerce_middle_place, coerce_part_place, coerce_place, pair_place, raise_place}
 use Rattle.rt_cast.specs.Procs.{coerce_proc, raise_proc}
+use Rattle.rt_cast.proofs.PartCodeLemmas.{coerce_middle_there}
 
 long_fun : (ps qs : List ℕ) (a b : ℕ) → nat_eq (length ps) (length qs) ≡ (length (ps ++ a ∷ []) == length
     (qs ++ b ∷ []))
@@ -151,16 +152,7 @@ module _ {V : Type 0} (walk : Walk V) where
 
   coerce_stands : (r : ℕ) → r ≤ 8 → slice_get walk.setting.procs (coerce_of walk.first r) ≡ Some (middle_proc walk.first
       (coerce_part walk.first) r)
-  coerce_stands zero le = walk.stands (coerce_middle_place 0) _ refl
-  coerce_stands (suc zero) le = walk.stands (coerce_middle_place 1) _ refl
-  coerce_stands (suc (suc zero)) le = walk.stands (coerce_middle_place 2) _ refl
-  coerce_stands (suc (suc (suc zero))) le = walk.stands (coerce_middle_place 3) _ refl
-  coerce_stands (suc (suc (suc (suc zero)))) le = walk.stands (coerce_middle_place 4) _ refl
-  coerce_stands (suc (suc (suc (suc (suc zero))))) le = walk.stands (coerce_middle_place 5) _ refl
-  coerce_stands (suc (suc (suc (suc (suc (suc zero)))))) le = walk.stands (coerce_middle_place 6) _ refl
-  coerce_stands (suc (suc (suc (suc (suc (suc (suc zero))))))) le = walk.stands (coerce_middle_place 7) _ refl
-  coerce_stands (suc (suc (suc (suc (suc (suc (suc (suc zero)))))))) le = walk.stands (coerce_middle_place 8) _ refl
-  coerce_stands (suc (suc (suc (suc (suc (suc (suc (suc (suc r))))))))) le = absurd (omega arith)
+  coerce_stands r le = walk.stands (coerce_middle_place r) _ (coerce_middle_there walk.first r le)
 
   abbrev R : ℕ → TypeRow
   R = (rows_in walk.l)

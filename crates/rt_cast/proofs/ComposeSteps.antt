@@ -3,9 +3,9 @@ use Rattle.std.proofs.Common.{◌≡◌, ◌⊎◌, inl, inr, ℕ, zero, suc, �
 use Rattle.std.proofs.Common.{false, cond, List, [], ◌∷◌, ◌++◌, map, Some, refl, sym, ap, ◌∙◌}
 use Rattle.std.proofs.Common.{subst, arith}
 use Rattle.std.specs.Prelude.{◌==◌, slice_get, length, max, min}
-use Rattle.object_layout.specs.Words.{kind_mask}
 use Rattle.rt_cast.specs.States.{Heap, st, Fine}
 use Rattle.grift_base.specs.Types.{TypeRow, IntRow, BoolRow, UnitRow, DynRow, FunRow, TupleRow, RefRow, VectRow}
+use Rattle.grift_base.proofs.Public.{each_row}
 use Rattle.grift_base.specs.Types.{parts_of}
 use Rattle.low_ir.specs.Operations.{compute}
 use Rattle.low_ir.specs.declared.code.WordOp.TheVariants.{Sll}
@@ -30,18 +30,18 @@ use Rattle.coercion_norm.specs.ObjectsOfRows.{header, kind_number, type_kind}
 use Rattle.coercion_norm.specs.Held.{rows_in, height_in}
 use Rattle.rt_cast.specs.WholeObjects.{WholeInject, WholeProject}
 use Rattle.rt_cast.specs.Procs.{middle_proc, part_proc}
-use Rattle.rt_cast.specs.PartCodes.{middle_code, raise_code, final_code, part_code, pick, each_word}
-use Rattle.low_ir.specs.Codes.{either, proc}
+use Rattle.rt_cast.specs.PartCodes.{middle_code, part_code, pick, each_word}
+use Rattle.low_ir.specs.Codes.{either}
 use Rattle.rt_cast.specs.ComposeCodes.{compose_code, compose_first, compose_third, compose_both, compose, part, raise}
 use Rattle.rt_cast.specs.ComposeCodes.{middle_of}
 use Rattle.rt_cast.specs.CoerceCodes.{coerce_code}
-use Rattle.rt_cast.proofs.HeaderNumbers.{eq_true, eq_false, eq_cases, lt_true, lt_false, lt_cases, kind_read}
+use Rattle.rt_cast.proofs.HeaderNumbers.{eq_true, eq_cases, lt_true, lt_false, lt_cases}
 use Rattle.rt_cast.proofs.HeaderNumbers.{count_read, header_made, header_small}
 use Rattle.low_ir.specs.Prices.{slot_price, source_price, sources_price, leaving}
 use Rattle.rt_cast.proofs.Steps.{Budget, Pay, One, More, at_most, word_there}
 use Rattle.rt_cast.proofs.Steps.{loads, computes, if_true, if_false, builds, calls, tail_calls, comes_back}
 use Rattle.rt_cast.proofs.Small.{grows_not, grows_on, there_still, HasHeight, not_zero, raised, finals}
-use Rattle.rt_cast.proofs.Small.{final_word, numbers, ReachedIn}
+use Rattle.rt_cast.proofs.Small.{final_word, numbers, reads_kind, ReachedIn}
 use Rattle.rt_cast.proofs.Middles.{few_parts, list_of, held_still, Answers, held_small, added, one_more}
 use Rattle.rt_cast.proofs.Middles.{middle_made, has_height, coercion_word}
 use Rattle.rt_cast.proofs.PartWords.{count, nth, word_at, got, as_many, nth_held, follow_at}
@@ -50,16 +50,12 @@ use Rattle.rt_cast.proofs.Walks.{Walk}
 use Rattle.rt_cast.proofs.Objects.{inject_header, project_header}
 use Rattle.rt_cast.specs.ComposeCodes.{coerce_place, compose_place, final_place, middle_place, part_place, raise_place}
 use Rattle.rt_cast.specs.Procs.{coerce_proc, compose_proc, final_proc, raise_proc}
+use Rattle.rt_cast.proofs.PartCodeLemmas.{middle_there}
 
 pub type_numbers : (row : TypeRow) → type_kind row < 256
-type_numbers IntRow = omega arith
-type_numbers BoolRow = omega arith
-type_numbers UnitRow = omega arith
-type_numbers DynRow = omega arith
-type_numbers (FunRow parameters answer) = omega arith
-type_numbers (TupleRow parts) = omega arith
-type_numbers (RefRow content) = omega arith
-type_numbers (VectRow content) = omega arith
+type_numbers =
+    each_row (λ row. type_kind row < 256) (omega arith) (omega arith) (omega arith) (omega arith) (λ _ _. omega arith)
+    (λ _. omega arith) (λ _. omega arith) (λ _. omega arith)
 
 pub turn : (k n : ℕ) (b : Bool) → (k == n) ≡ b → (n == k) ≡ b
 turn k n b e = grind (arith, e)
@@ -152,16 +148,7 @@ module _ {V : Type 0} (walk : Walk V) where
 
   pub middle_stands : (r : ℕ) → r ≤ 8 → slice_get walk.setting.procs (middle_of walk.first r) ≡ Some
       (middle_proc walk.first (part walk.first) r)
-  middle_stands zero le = walk.stands (middle_place 0) _ refl
-  middle_stands (suc zero) le = walk.stands (middle_place 1) _ refl
-  middle_stands (suc (suc zero)) le = walk.stands (middle_place 2) _ refl
-  middle_stands (suc (suc (suc zero))) le = walk.stands (middle_place 3) _ refl
-  middle_stands (suc (suc (suc (suc zero)))) le = walk.stands (middle_place 4) _ refl
-  middle_stands (suc (suc (suc (suc (suc zero))))) le = walk.stands (middle_place 5) _ refl
-  middle_stands (suc (suc (suc (suc (suc (suc zero)))))) le = walk.stands (middle_place 6) _ refl
-  middle_stands (suc (suc (suc (suc (suc (suc (suc zero))))))) le = walk.stands (middle_place 7) _ refl
-  middle_stands (suc (suc (suc (suc (suc (suc (suc (suc zero)))))))) le = walk.stands (middle_place 8) _ refl
-  middle_stands (suc (suc (suc (suc (suc (suc (suc (suc (suc r))))))))) le = absurd (omega arith)
+  middle_stands r le = walk.stands (middle_place r) _ (middle_there walk.first r le)
 
   -- the procedure for so many parts as a word says
   pub picks : {B : Budget} → (which : ℕ → ℕ) (whose : ℕ) → ((r : ℕ) → r ≤ 8 → slice_get walk.setting.procs (which r) ≡
@@ -224,6 +211,21 @@ module _ {V : Type 0} (walk : Walk V) where
       (if_false walk objects fine n k is as_ (turn k n false t) (c _))
       (omega arith, omega arith, omega arith, omega arith)
 
+  -- of a kind that is neither that of functions nor that of tuples, the last part runs backwards
+  last_back : {B : Budget} → (objects : List Object) (h : Heap) (fine : Fine walk.setting walk.l walk.around objects h)
+      (waiting : List Waiting) (go : LowSource → LowSource → Code) (kind : ℕ) → (kind == 10) ≡ false
+      → (kind == 9) ≡ false → (n k x y e : ℕ) (b : Bool) → (k == n) ≡ b
+      → ((rests : List Code)
+      → Reached B (state 6 (bind 0 (kind ∷ n ∷ k ∷ x ∷ y ∷ e ∷ []) no_locals) (in_order go b) rests waiting h))
+      → Reached (More 3 0 0 41 B)
+      (state 6 (bind 0 (kind ∷ n ∷ k ∷ x ∷ y ∷ e ∷ []) no_locals) (part_code go) [] waiting h)
+  last_back objects h fine waiting go kind no_tuple no_function n k x y e b t c =
+      at_most walk
+      (if_false walk objects fine kind 10 refl refl no_tuple
+      (if_false walk objects fine kind 9 refl refl no_function
+      (by_turn objects h fine waiting _ _ (in_order go) n k refl refl b t c)))
+      (omega arith, omega arith, omega arith, omega arith)
+
   -- the two words of a part in their order
   pub part_runs : {B : Budget} → (objects : List Object) (h : Heap) (fine : Fine walk.setting walk.l walk.around objects
       h) (waiting : List Waiting) (go : LowSource → LowSource → Code) (kind : Kind) (n k x y e : ℕ) (b : Bool)
@@ -243,17 +245,9 @@ module _ {V : Type 0} (walk : Walk V) where
       (if_true walk objects fine 10 10 refl refl refl (c _))
       (omega arith, omega arith, omega arith, omega arith)
   part_runs objects h fine waiting go RefKind n k x y e b t c =
-      at_most walk
-      (if_false walk objects fine 11 10 refl refl refl
-      (if_false walk objects fine 11 9 refl refl refl
-      (by_turn objects h fine waiting _ _ (λ q. in_order go (runs_back RefKind q)) n k refl refl b t c)))
-      (omega arith, omega arith, omega arith, omega arith)
+      last_back objects h fine waiting go 11 refl refl n k x y e b t c
   part_runs objects h fine waiting go VecKind n k x y e b t c =
-      at_most walk
-      (if_false walk objects fine 12 10 refl refl refl
-      (if_false walk objects fine 12 9 refl refl refl
-      (by_turn objects h fine waiting _ _ (λ q. in_order go (runs_back VecKind q)) n k refl refl b t c)))
-      (omega arith, omega arith, omega arith, omega arith)
+      last_back objects h fine waiting go 12 refl refl n k x y e b t c
 
   -- ---- compose
 
@@ -279,12 +273,8 @@ module _ {V : Type 0} (walk : Walk V) where
       (wc ∷ wd ∷ []) no_locals)
       (compose_code walk.first) [] waiting h)
   reads_first objects h fine waiting wc wd k y m ws there lt go =
-      let z = not_zero walk objects h fine wc (header k y m) ws there in
-      at_most walk
-      (if_false walk objects fine wc 0 refl refl (eq_false wc 0 (λ e. omega (arith, z.0)))
-      (loads walk objects fine wc (header k y m) ws 0 (header k y m) refl there refl refl refl
-      (computes walk objects fine (header k y m) kind_mask k refl refl (kind_read k y m lt) refl (go _))))
-      (omega arith, omega arith, omega arith, omega arith)
+      reads_kind walk objects h fine waiting [] (bind 0 (wc ∷ wd ∷ []) no_locals) 12 0 2 3 wc k y m ws refl there lt
+      refl refl refl refl refl refl go
 
   pub reads_both : {B : Budget} → (objects : List Object) (h : Heap) (fine : Fine walk.setting walk.l walk.around
       objects h) (waiting : List Waiting) (wc wd k y m : ℕ) (ws : List ℕ) → There walk.l objects wc
@@ -294,14 +284,12 @@ module _ {V : Type 0} (walk : Walk V) where
       waiting h))
       → Reached (More 8 0 0 72 B) (state 12 (bind 0 (wc ∷ wd ∷ []) no_locals) (compose_code walk.first) [] waiting h)
   reads_both objects h fine waiting wc wd k y m ws there lt no14 no8 k2 y2 m2 ws2 there2 lt2 go =
-      let z = not_zero walk objects h fine wd (header k2 y2 m2) ws2 there2 in
       at_most walk
       (reads_first objects h fine waiting wc wd k y m ws there lt
       (λ rests. if_false walk objects fine k 14 refl refl no14
       (if_false walk objects fine k 8 refl refl no8
-      (if_false walk objects fine wd 0 refl refl (eq_false wd 0 (λ e. omega (arith, z.0)))
-      (loads walk objects fine wd (header k2 y2 m2) ws2 0 (header k2 y2 m2) refl there2 refl refl refl
-      (computes walk objects fine (header k2 y2 m2) kind_mask k2 refl refl (kind_read k2 y2 m2 lt2) refl (go _)))))))
+      (reads_kind walk objects h fine waiting _ (one_read wc wd (header k y m) k) 12 1 4 5 wd k2 y2 m2 ws2 refl there2
+      lt2 refl refl refl refl refl refl go))))
       (omega arith, omega arith, omega arith, omega arith)
 
   pub id_first : (d : Coercion) → ComposeDoes 1 0 0 20 Id d d

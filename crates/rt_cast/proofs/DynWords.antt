@@ -150,27 +150,36 @@ small_fits row x small e =
     let s = small_is row x small e in
     subst (λ n. n < 2 ^ 64) (sym s.is) (tagged_small s.tag x (let f = s.few in omega (arith, f)))
 
+-- what holds of the types without parts but Dyn holds of each type with a tag
+pub each_tagged : (P : TypeRow → Type 0) → P IntRow → P BoolRow → P UnitRow → (row : TypeRow) {tag : ℕ}
+    → tag_of row ≡ Some tag → P row
+each_tagged P int bool unit IntRow e = int
+each_tagged P int bool unit BoolRow e = bool
+each_tagged P int bool unit UnitRow e = unit
+each_tagged P int bool unit DynRow e = none_some e
+each_tagged P int bool unit (FunRow ps a) e = none_some e
+each_tagged P int bool unit (TupleRow ps) e = none_some e
+each_tagged P int bool unit (RefRow c) e = none_some e
+each_tagged P int bool unit (VectRow c) e = none_some e
+
+pub tagged_has_no_kind : (row : TypeRow) (tag : ℕ) → tag_of row ≡ Some tag → kind_of row ≡ None
+tagged_has_no_kind row tag e = each_tagged (λ row. kind_of row ≡ None) refl refl refl row e
+
 -- a type without parts has the head of another just where their kinds are one
 pub heads_by_kinds : (row other : TypeRow) (tag : ℕ) → tag_of row ≡ Some tag
     → same_head row other ≡ (type_kind row == type_kind other)
-heads_by_kinds IntRow IntRow tag e = refl
-heads_by_kinds IntRow _ tag e = refl
-heads_by_kinds BoolRow BoolRow tag e = refl
-heads_by_kinds BoolRow _ tag e = refl
-heads_by_kinds UnitRow UnitRow tag e = refl
-heads_by_kinds UnitRow _ tag e = refl
-heads_by_kinds DynRow other tag e = none_some e
-heads_by_kinds (FunRow ps a) other tag e = none_some e
-heads_by_kinds (TupleRow ps) other tag e = none_some e
-heads_by_kinds (RefRow c) other tag e = none_some e
-heads_by_kinds (VectRow c) other tag e = none_some e
+heads_by_kinds row other tag e =
+    each_tagged (λ row. same_head row other ≡ (type_kind row == type_kind other)) (int other) (bool other) (unit other)
+    row e
+  where
+    int : (other : TypeRow) → same_head IntRow other ≡ (type_kind IntRow == type_kind other)
+    int IntRow = refl
+    int _ = refl
 
-pub tagged_has_no_kind : (row : TypeRow) (tag : ℕ) → tag_of row ≡ Some tag → kind_of row ≡ None
-tagged_has_no_kind IntRow tag e = refl
-tagged_has_no_kind BoolRow tag e = refl
-tagged_has_no_kind UnitRow tag e = refl
-tagged_has_no_kind DynRow tag e = none_some e
-tagged_has_no_kind (FunRow ps a) tag e = none_some e
-tagged_has_no_kind (TupleRow ps) tag e = none_some e
-tagged_has_no_kind (RefRow c) tag e = none_some e
-tagged_has_no_kind (VectRow c) tag e = none_some e
+    bool : (other : TypeRow) → same_head BoolRow other ≡ (type_kind BoolRow == type_kind other)
+    bool BoolRow = refl
+    bool _ = refl
+
+    unit : (other : TypeRow) → same_head UnitRow other ≡ (type_kind UnitRow == type_kind other)
+    unit UnitRow = refl
+    unit _ = refl

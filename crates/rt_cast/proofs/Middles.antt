@@ -28,8 +28,8 @@ use Rattle.object_layout.specs.declared.kinds.Kind.TheVariants.{Project as Proje
 use Rattle.object_layout.specs.Kinds.{is_coercion}
 use Rattle.coercion_norm.specs.StaticObjects.{middle_kind}
 use Rattle.rt_cast.specs.WholeObjects.{CoercionWord, IdWord, ObjectWord, Highest, WholeMiddle}
-use Rattle.rt_cast.specs.PartCodes.{results, finish_code, parts_code, middle_code, raise_code}
-use Rattle.low_ir.specs.Codes.{proc}
+use Rattle.rt_cast.specs.PartCodes.{finish_code, parts_code, middle_code}
+use Rattle.low_ir.specs.Codes.{words_from}
 use Rattle.coercion_norm.proofs.Public.{object_behind}
 use Rattle.rt_cast.proofs.Objects.{chosen_true, AreSmall}
 use Rattle.rt_cast.proofs.HeaderNumbers.{eq_true, eq_cases, lt_true}
@@ -200,20 +200,22 @@ place_price k le = grind (arith, le)
 number_price : (n : ℕ) → source_price (Number n) ≤ 12
 number_price n = grind arith
 
-results_price : (j k : ℕ) → k + j ≤ 8 → sources_price (results j k) ≡ 4 * j
-results_price zero k le = refl
-results_price (suc j) k le =
-    let s = slot_near k (omega (arith, le)) in
-    let z = results_price j (suc k) (omega (arith, le)) in
+words_price : (j m : ℕ) → m + j ≤ 24 → sources_price (words_from j m) ≡ 4 * j
+words_price zero m le = refl
+words_price (suc j) m le =
+    let s : slot_price m ≡ 1 = grind (arith, le) in
+    let z = words_price j (suc m) (omega (arith, le)) in
     omega (arith, s, z)
 
 number_small : (n : ℕ) → n < 2 ^ 64 → n % 2 ^ 64 ≡ n
 number_small n h = omega arith
 
-results_are : (L : Locals) (W : ℕ → ℕ) (j k n : ℕ) → n ≡ k + j → ((i : ℕ) → i < n → L (16 + i) ≡ Some (W i))
-    → words_of L (results j k) ≡ Some (upto W j k)
-results_are L W zero k n e h = refl
-results_are L W (suc j) k n e h = ap₂ and_more (h k (omega arith)) (results_are L W j (suc k) n (omega arith) h)
+results_are : (L : Locals) (W : ℕ → ℕ) (j k m n : ℕ) → 16 + k ≡ m → n ≡ k + j
+    → ((i : ℕ) → i < n → L (16 + i) ≡ Some (W i)) → words_of L (words_from j m) ≡ Some (upto W j k)
+results_are L W zero k m n f e h = refl
+results_are L W (suc j) k m n f e h =
+    ap₂ and_more (subst (λ i. L i ≡ Some (W k)) f (h k (omega arith)))
+    (results_are L W j (suc k) (suc m) n (omega (arith, f)) (omega arith) h)
 
 is_id_word : (l : Layout) (objects : List Object) (c : Coercion) (w : ℕ) → ((at head : ℕ) (ws : List ℕ)
     → There l objects at (Fixed head ws) → 65536 ≤ at) → Held l objects c w → compute Sltu 0 w ≡ cond (is_id c) 0 1
@@ -433,7 +435,7 @@ module _ {V : Type 0} (walk : Walk V) where
               (computes walk now fine s2 (kind_number kind) s3 refl at.kind_is refl refl
               (computes walk now fine s3 (total * 4294967296 % 2 ^ 64) head refl refl (sum_is m (kind_number kind) lt
               (numbers kind)) refl
-              (builds walk now fine head ws (ap (λ o. and_more (Some head) o) (results_are _ at.W total 0 total
+              (builds walk now fine head ws (ap (λ o. and_more (Some head) o) (results_are _ at.W total 0 16 total refl
               (omega arith) (λ i lt. skip_five head s3 s2 s1 L i ∙ at.words i lt))) (omega (arith, long, few))
               (omega arith) (
                 header_small (kind_number kind) (suc m) total (numbers kind) (omega (arith, lt))
@@ -461,7 +463,7 @@ module _ {V : Type 0} (walk : Walk V) where
                 omega arith,
                 omega arith,
                 omega (arith, long),
-                let r = results_price total 0 (omega (arith, few)) in let n = number_price
+                let r = words_price total 16 (omega (arith, few)) in let n = number_price
                     (total * 4294967296) in omega (arith, r, n),
               )
 

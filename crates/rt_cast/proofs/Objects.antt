@@ -14,7 +14,7 @@ use Rattle.object_layout.specs.Kinds.{kind_number}
 use Rattle.coercion_norm.specs.ObjectsOfRows.{header}
 use Rattle.coercion_norm.specs.Objects.{Object, Fixed, Cell, header_of, bytes_of, bytes_of_all, object_at}
 use Rattle.coercion_norm.specs.Objects.{words_of, words_of_all}
-use Rattle.coercion_norm.proofs.Public.{bytes_of_words, found_within}
+use Rattle.coercion_norm.proofs.Public.{bytes_of_words, found_within, words_part}
 use Rattle.rt_cast.specs.Objects.{HasWord, HoldsWords}
 use Rattle.rt_cast.specs.Objects.{HoldsObject, Holds}
 use Rattle.object_layout.specs.Words.{kind_mask}
@@ -65,12 +65,7 @@ header_room (Cell header count) = omega arith
 -- words one behind another are held each in its place
 pub words_split : (m : Memory) (at : ℕ) (xs ys : List ℕ) → HoldsWords m at (xs ++ ys)
     → HoldsWords m at xs × HoldsWords m (at + 8 * length xs) ys
-words_split m at [] ys h =
-    let e : at ≡ at + 8 * 0 = omega arith in (tt, subst (λ n. HoldsWords m n ys) e h)
-words_split m at (x ∷ xs) ys h =
-    let rest = words_split m (at + 8) xs ys h.1 in
-    let e : at + 8 + 8 * length xs ≡ at + 8 * length (x ∷ xs) = omega arith in
-    ((h.0, rest.0), subst (λ n. HoldsWords m n ys) e rest.1)
+words_split m = words_part (HasWord m) (HoldsWords m) (λ at. tt) (λ at x xs. (λ h. h, λ h. h))
 
 first_of_words : (m : Memory) (at : ℕ) (o : Object) → HoldsWords m at (words_of o) → HoldsObject m at o
 first_of_words m at (Fixed header words) h = h

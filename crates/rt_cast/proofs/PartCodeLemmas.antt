@@ -1,26 +1,12 @@
--- Codes of parts as loops make them.
-use Rattle.std.proofs.Common.{◌≡◌, ℕ, zero, suc, ◌+◌, ◌-◌, ◌<◌, List, [], ◌∷◌, ◌++◌, append_assoc, ap, ap₂, ◌∙◌}
-use Rattle.std.proofs.Common.{subst, arith}
-use Rattle.low_ir.specs.declared.code.LowSource.TheVariants.{Word}
+-- Codes of parts as loops make them, and where the procedures stand that do them.
+use Rattle.std.proofs.Common.{◌≡◌, ℕ, zero, suc, ◌+◌, ◌-◌, ◌<◌, ◌≤◌, List, [], ◌∷◌, ◌++◌, Some, append_assoc, ap, ap₂}
+use Rattle.std.proofs.Common.{◌∙◌, subst, arith}
+use Rattle.std.specs.Prelude.{length, slice_get}
+use Rattle.type_graph.proofs.Public.{get_kept}
 use Rattle.low_ir.specs.Procedures.{Code, Proc}
-use Rattle.rt_cast.specs.PartCodes.{results, part_step, parts_code}
-use Rattle.rt_cast.specs.Procs.{middle_by, middles_from}
-
--- one more at the end
-results_end : (j k : ℕ) → results j k ++ Word (16 + (k + j)) ∷ [] ≡ results (suc j) k
-results_end zero k = let e : k + 0 ≡ k = omega arith in ap (λ n. Word (16 + n) ∷ []) e
-results_end (suc j) k =
-    let e : suc k + j ≡ k + suc j = omega arith in
-    ap (λ xs. Word (16 + k) ∷ xs) (subst (λ n. results j (suc k) ++ Word (16 + n) ∷ [] ≡ results (suc j) (suc k)) e
-    (results_end j (suc k)))
-
-pub results_more : (k : ℕ) → (Word 5 ∷ results k 0) ++ Word (16 + k) ∷ [] ≡ Word 5 ∷ results (k + 1) 0
-results_more k =
-    let e : 0 + k ≡ k = omega arith in
-    let f : suc k ≡ k + 1 = omega arith in
-    ap (λ xs. Word 5 ∷ xs)
-    (subst (λ n. results k 0 ++ Word (16 + n) ∷ [] ≡ results (suc k) 0) e (results_end k 0)
-    ∙ ap (λ n. results n 0) f)
+use Rattle.rt_cast.specs.PartCodes.{part_step, parts_code}
+use Rattle.rt_cast.specs.Procs.{cast_procs, first_procs, middle_by, middle_proc, middles, middles_from}
+use Rattle.rt_cast.specs.ComposeCodes.{coerce_middle_place, coerce_part, middle_place, part, raise}
 
 pub parts_more : (raise part : ℕ) (offset : ℕ → ℕ) (total j : ℕ) (old new : Code) → j < total
     → old ≡ parts_code raise part offset total j (total - j)
@@ -55,3 +41,36 @@ middles_more higher each r before =
     ∙ ap (λ xs. before ++ xs)
     (subst (λ i. middles_from higher each r 0 ++ middle_by higher each i ∷ [] ≡ middles_from higher each (suc r) 0) e
     (middles_end higher each r 0) ∙ ap (λ i. middles_from higher each i 0) f)
+
+-- ---- where middles stand
+
+get_behind : (xs ys : List Proc) (k : ℕ) → slice_get (xs ++ ys) (length xs + k) ≡ slice_get ys k
+get_behind [] ys k = ap (slice_get ys) (omega arith)
+get_behind (x ∷ xs) ys k =
+    let same : suc (length xs) + k ≡ suc (length xs + k) = omega arith in
+    ap (slice_get (x ∷ (xs ++ ys))) same ∙ get_behind xs ys k
+
+-- each stands behind those of fewer parts
+middles_found : (higher each n r k m : ℕ) → k < n → r + k ≡ m
+    → slice_get (middles_from higher each n r) k ≡ Some (middle_by higher each m)
+middles_found higher each zero r k m few e = absurd (omega (arith, few))
+middles_found higher each (suc n) r zero m few e =
+    let f : r ≡ m = omega (arith, e) in ap (λ i. Some (middle_by higher each i)) f
+middles_found higher each (suc n) r (suc k) m few e =
+    middles_found higher each n (suc r) k m (omega (arith, few)) (omega (arith, e))
+
+nth_middle : (first each r : ℕ) → r ≤ 8 → slice_get (middles first each) r ≡ Some (middle_proc first each r)
+nth_middle first each r few = middles_found (raise first) each 9 0 r r (omega (arith, few)) (omega arith)
+
+pub middle_there : (first r : ℕ) → r ≤ 8
+    → slice_get (cast_procs first) (middle_place r) ≡ Some (middle_proc first (part first) r)
+middle_there first r few =
+    get_behind (first_procs first) (middles first (part first) ++ middles first (coerce_part first)) r
+    ∙ get_kept (middles first (part first)) (middles first (coerce_part first)) r _
+    (nth_middle first (part first) r few)
+
+pub coerce_middle_there : (first r : ℕ) → r ≤ 8
+    → slice_get (cast_procs first) (coerce_middle_place r) ≡ Some (middle_proc first (coerce_part first) r)
+coerce_middle_there first r few =
+    get_behind (first_procs first ++ middles first (part first)) (middles first (coerce_part first)) r
+    ∙ nth_middle first (coerce_part first) r few

@@ -35,7 +35,7 @@ use Rattle.rt_cast.specs.WholeObjects.{IsSolid}
 use Rattle.rt_cast.specs.CastCodes.{project_code, project_dyn, project_dyn_object, project_dyn_part, project_blame}
 use Rattle.rt_cast.specs.CastCodes.{into_dyn, read_kind}
 use Rattle.rt_cast.specs.DynWords.{tag_of, small_dyn, IsDynBy}
-use Rattle.rt_cast.proofs.DynWords.{small_is, tag_read, no_tag}
+use Rattle.rt_cast.proofs.DynWords.{each_tagged, small_is, tag_read, no_tag}
 use Rattle.rt_cast.proofs.IntoDyn.{untagged_there, kind_there, put_into_dyn}
 use Rattle.low_ir.specs.Operations.{compute}
 use Rattle.object_layout.specs.declared.kinds.Kind.TheVariants.{Proxy}
@@ -131,28 +131,15 @@ data Sight (row : TypeRow) (k : ℕ) : Type 0 where
   HasPart : (ps : List ℕ) (part : ℕ) → row ≡ TupleRow ps → slice_get ps k ≡ Some part → Sight row k
 
 sight : (row : TypeRow) (k : ℕ) → Sight row k
-sight IntRow k = NotTuple refl refl
-sight BoolRow k = NotTuple refl refl
-sight UnitRow k = NotTuple refl refl
-sight DynRow k = NotTuple refl refl
-sight (FunRow ps a) k = NotTuple refl refl
-sight (RefRow c) k = NotTuple refl refl
-sight (VectRow c) k = NotTuple refl refl
 sight (TupleRow ps) k = by (lt_cases k (length ps))
   where
     by : (k < length ps) ⊎ (length ps ≤ k) → Sight (TupleRow ps) k
     by (inl lt) = let z = within ps k lt in HasPart ps z.0 refl z.1
     by (inr le) = Short ps refl le
+sight _ k = NotTuple refl refl
 
 no_tuple : (row : TypeRow) (k : ℤ) (tag : ℕ) → tag_of row ≡ Some tag → tuple_part row k ≡ None
-no_tuple IntRow k tag e = refl
-no_tuple BoolRow k tag e = refl
-no_tuple UnitRow k tag e = refl
-no_tuple DynRow k tag e = none_some e
-no_tuple (FunRow ps a) k tag e = none_some e
-no_tuple (TupleRow ps) k tag e = none_some e
-no_tuple (RefRow c) k tag e = none_some e
-no_tuple (VectRow c) k tag e = none_some e
+no_tuple row k tag e = each_tagged (λ row. tuple_part row k ≡ None) refl refl refl row e
 
 -- a part is lower than the whole
 part_lower : (rows : ℕ → TypeRow) (t kept part k : ℕ) (ps : List ℕ) → rows kept ≡ TupleRow ps

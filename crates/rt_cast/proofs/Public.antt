@@ -26,6 +26,7 @@ pub use Rattle.rt_cast.proofs.Objects.{word_same, words_same, object_same, holds
 pub use Rattle.rt_cast.proofs.Objects.{closure_header, tuple_header, box_header, vector_header, proxy_header}
 pub use Rattle.rt_cast.proofs.Objects.{proxy_read, dyn_header}
 pub use Rattle.rt_cast.proofs.HeaderNumbers.{lt_true, lt_false, eq_true, eq_false, kind_read, count_read}
+pub use Rattle.rt_cast.proofs.ComposeSteps.{type_numbers}
 -- the call of cast, whose decisions the merged mode makes, and what is held and carried still behind it:
 pub use Rattle.rt_cast.proofs.Middles.{held_still}
 pub use Rattle.rt_cast.proofs.ProjectRuns.{part_held}

@@ -1,16 +1,19 @@
 -- What the small procedures do.
 use Rattle.std.proofs.Common.{◌≡◌, ◌⊎◌, inl, inr, ℕ, ◌^◌, ◌<◌, ◌≤◌}
-use Rattle.std.proofs.Common.{false, List, [], ◌∷◌, ◌++◌, Some, refl, sym, ap, ◌∙◌, subst}
+use Rattle.std.proofs.Common.{true, false, List, [], ◌∷◌, ◌++◌, Some, refl, sym, ap, ◌∙◌, subst}
 use Rattle.std.proofs.Common.{arith, append_assoc, append-nil}
-use Rattle.std.specs.Prelude.{◌==◌, length, max}
+use Rattle.std.specs.Prelude.{◌==◌, length, max, nat_lt}
 use Rattle.object_layout.specs.Words.{kind_mask}
 use Rattle.rt_cast.specs.States.{Grows, Heap, st, Fine}
 use Rattle.low_ir.specs.Operations.{compute}
-use Rattle.low_ir.specs.declared.code.WordOp.TheVariants.{Srl}
-use Rattle.low_ir.specs.Steps.{Locals, no_locals}
+use Rattle.low_ir.specs.declared.code.WordOp.TheVariants.{And, Srl}
+use Rattle.low_ir.specs.Steps.{Locals, no_locals, set_local}
 use Rattle.low_ir.specs.declared.code.LowSource.{LowSource}
 use Rattle.low_ir.specs.declared.code.LowSource.TheVariants.{Word, Number}
-use Rattle.low_ir.specs.Procedures.{Code, Return}
+use Rattle.low_ir.specs.Procedures.{Code, Compute, Load, Return}
+use Rattle.low_ir.specs.Codes.{either}
+use Rattle.low_ir.specs.Prices.{slot_price}
+use Rattle.machine_words.specs.declared.conditions.Cond.TheVariants.{Eq}
 use Rattle.low_ir.specs.Run.{Waiting, LowState, word_of, bind}
 use Rattle.coercion_norm.specs.Objects.{Object, Fixed, object_at}
 use Rattle.coercion_norm.specs.Held.{Layout, There, Held, height_in}
@@ -93,6 +96,27 @@ module _ {V : Type 0} (walk : Walk V) where
   abbrev pub Gives : Budget → Heap → List Waiting → ℕ → Type 0
   Gives B h waiting w = (count : ℕ) (locals : Locals) (rests : List Code) (a : LowSource) → word_of locals a ≡ Some w
       → ReachedIn (Pay (return_price count a) B) (state_in count locals (Return a) rests waiting h)
+
+  -- past the test for Id, the header of an object goes into one word, and its kind into another
+  pub reads_kind : {B : Budget} → (objects : List Object) (h : Heap)
+      (fine : Fine walk.setting walk.l walk.around objects h) (waiting : List Waiting) (rests : List Code)
+      (locals : Locals) (size own d e w k y m : ℕ) (ws : List ℕ) {end rest : Code} → word_of locals (Word own) ≡ Some w
+      → There walk.l objects w (Fixed (header k y m) ws) → k < 256
+      → slot_price own ≡ 1 → slot_price d ≡ 1 → slot_price e ≡ 1 → nat_lt d size ≡ true → nat_lt e size ≡ true
+      → word_of (set_local d (header k y m) locals) (Word d) ≡ Some (header k y m)
+      → ((rests : List Code) → ReachedIn B
+      (state_in size (set_local e k (set_local d (header k y m) locals)) rest rests waiting h))
+      → ReachedIn (More 3 0 0 22 B)
+      (state_in size locals (either Eq (Word own) (Number 0) end (Load d (Word own) 0
+      (Compute And e (Word d) (Number kind_mask) rest))) rests waiting h)
+  reads_kind objects h fine waiting rests locals size own d e w k y m ws is there lt near first second fits held
+      loaded go =
+      let z = not_zero objects h fine w (header k y m) ws there in
+      at_most walk
+      (if_false walk objects fine w 0 is refl (eq_false w 0 (λ e. omega (arith, z.0)))
+      (loads walk objects fine w (header k y m) ws 0 (header k y m) is there refl refl fits
+      (computes walk objects fine (header k y m) kind_mask k loaded refl (kind_read k y m lt) held (go _))))
+      (omega arith, omega arith, omega arith, omega (arith, near, first, second))
 
   pub raised : {B : Budget} → (objects : List Object) (h : Heap) (fine : Fine walk.setting walk.l walk.around objects h)
       (waiting : List Waiting) (x w y : ℕ) → HasHeight walk.l objects w y → Gives B h waiting (max x y) → ReachedIn

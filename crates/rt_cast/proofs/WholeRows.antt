@@ -55,21 +55,15 @@ type_is _ = refl
 
 middle_is : (kind : Kind) → is_middle (middle_kind kind) ≡ true
 middle_is FunKind = refl
-middle_is TupKind = refl
-middle_is RefKind = refl
-middle_is VecKind = refl
+middle_is _ = refl
 
 middle_stands : (kind : Kind) → is_type (middle_kind kind) ≡ false
 middle_stands FunKind = refl
-middle_stands TupKind = refl
-middle_stands RefKind = refl
-middle_stands VecKind = refl
+middle_stands _ = refl
 
 middle_wanted : (kind : Kind) (count : ℕ) → wanted_words (middle_kind kind) count ≡ replicate count Coercion
 middle_wanted FunKind count = refl
-middle_wanted TupKind count = refl
-middle_wanted RefKind count = refl
-middle_wanted VecKind count = refl
+middle_wanted _ count = refl
 
 middle_count : (kind : Kind) (count : ℕ) → KindHasWidth kind count → allows_count (middle_kind kind) count ≡ true
 middle_count FunKind count h = grind (arith, h)

@@ -7,7 +7,7 @@ use Rattle.low_ir.specs.declared.code.LowSource.{LowSource}
 use Rattle.low_ir.specs.declared.code.LowSource.TheVariants.{Word, Number}
 use Rattle.low_ir.specs.declared.code.WordOp.TheVariants.{Add, And, Sll, Srl, Sltu}
 use Rattle.low_ir.specs.Procedures.{Code, Set, Compute, Load, Build, Call, Return, TailCall}
-use Rattle.low_ir.specs.Codes.{either}
+use Rattle.low_ir.specs.Codes.{either, words_from}
 use Rattle.object_layout.specs.Words.{kind_mask, height_shift, height_mask, count_unit}
 
 -- the header of an object with the height that a word holds, put into the word
@@ -35,11 +35,6 @@ final_code =
 -- word 3 how many parts one that is told in full has, word 4 a label; word 5 is the height so far, word 6 how many
 -- parts so far are not Id, and the parts stand from word 16 on
 
--- so many parts from k on
-abbrev pub results : ℕ → ℕ → List LowSource
-results zero k = []
-results (suc j) k = Word (16 + k) ∷ results j (suc k)
-
 -- the object of so many parts, or 0 where all are Id
 abbrev pub finish_code : ℕ → Code
 finish_code total =
@@ -48,7 +43,7 @@ finish_code total =
     Compute Sll 5 (Word 5) (Number height_shift) (
     Compute Add 5 (Word 5) (Word 2) (
     Compute Add 5 (Word 5) (Number (total * count_unit)) (
-    Build 7 (Word 5 ∷ results total 0) (Return (Word 7)))))))
+    Build 7 (Word 5 ∷ words_from total 16) (Return (Word 7)))))))
 
 -- told the procedures of a height and of a part, where part k stands in an object, and how many parts there are
 module _ (raise part : ℕ) (offset : ℕ → ℕ) (total : ℕ) where

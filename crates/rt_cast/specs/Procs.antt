@@ -55,11 +55,14 @@ middle_proc first each r = middle_by (raise first) each r
 abbrev pub middles : ℕ → ℕ → List Proc
 middles first each = middles_from (raise first) each 9 0
 
-abbrev pub cast_procs : ℕ → List Proc
-cast_procs first =
+-- those before the middles
+abbrev pub first_procs : ℕ → List Proc
+first_procs first =
     coerce_proc first ∷ compose_proc first ∷ cast_proc first ∷ project_proc first ∷ part_proc first ∷ raise_proc
-    ∷ final_proc ∷ coerce_part_proc first ∷ pair_proc first
-    ∷ middles first (part first) ++ middles first (coerce_part first)
+    ∷ final_proc ∷ coerce_part_proc first ∷ pair_proc first ∷ []
+
+abbrev pub cast_procs : ℕ → List Proc
+cast_procs first = first_procs first ++ middles first (part first) ++ middles first (coerce_part first)
 
 -- so many are they
 abbrev pub how_many_cast_procs : ℕ

@@ -8,14 +8,14 @@ ghost use Rattle.rt_cast.specs.CastCodes.{cast_kinds, project_dyn_part, project_
 ghost use Rattle.rt_cast.specs.CastCodes.{project_tuple};
 ghost use Rattle.rt_cast.specs.Procs.{cast_proc, project_proc};
 
-use crate::codes::{by_kind, load_kind, proc, unless_zero};
+use crate::codes::{by_kind, load_kind, load_unless_id, unless_zero};
 use crate::numbers::CastProc;
 use crate::words::{header, kind};
 use grift_base::lists::OutOfMemory;
 use grift_base::made::both;
 use low_ir::code::LowSource::{Number, Word};
 use low_ir::code::{LowCode, WordOp};
-use low_ir::codes::{blame, build, call, compute, either, load, tail_call};
+use low_ir::codes::{blame, build, call, compute, either, load, proc, tail_call};
 use low_ir::programs::LowProc;
 use machine_words::conditions::Cond;
 use object_layout::kinds::Kind;
@@ -164,8 +164,8 @@ pub fn cast_proc(alloc: Global, first: u32) -> Result<LowProc, OutOfMemory>
     requires room { first + 27 ≤ 2 ^ 32 }
     ensures { IfOk result (λ proc. proc_of proc ≡ cast_proc first) }
 {
-    let rest = load_kind(alloc, (2, 3), 1, cast_kinds(alloc, first)?)?;
-    Ok(proc(2, 10, unless_zero(alloc, 1, Word(0), rest)?))
+    let rest = load_unless_id(alloc, (2, 3), 1, Word(0), cast_kinds(alloc, first)?)?;
+    Ok(proc(2, 10, rest))
 }
 
 // The part of what is in the Dyn, in a Dyn that keeps the part's type, unless that is Dyn.

@@ -4,31 +4,24 @@ ghost use Rattle.std.specs.Prelude.{◌≡◌, IfOk};
 ghost use Rattle.machine_words.specs.declared.conditions.Cond.TheVariants.{Eq};
 ghost use Rattle.object_layout.specs.Kinds.{kind_number};
 ghost use Rattle.object_layout.specs.Words.{kind_mask};
-ghost use Rattle.low_ir.specs.Codes.{either, proc};
+ghost use Rattle.low_ir.specs.Codes.{either};
 ghost use Rattle.low_ir.specs.declared.code.LowSource.TheVariants.{Number, Word};
 ghost use Rattle.low_ir.specs.declared.code.WordOp.TheVariants.{And};
 ghost use Rattle.low_ir.specs.Procedures.{Compute, Load, Return};
-ghost use Rattle.low_ir.specs.Views.{code_of, proc_of};
+ghost use Rattle.low_ir.specs.Views.{code_of};
 ghost use Rattle.rt_cast.specs.PartCodes.{put_header};
 
 use crate::words::kind;
-use grift_base::lists::OutOfMemory;
 use low_ir::code::LowSource::{Number, Word};
 use low_ir::code::{LowCode, LowSource, WordOp};
-use low_ir::codes::{compute, either, load};
-use low_ir::programs::LowProc;
+use low_ir::codes::{CodeResult, compute, either, load};
 use machine_words::conditions::Cond;
 use object_layout::kinds::Kind;
 use object_layout::words::{HEIGHT_SHIFT, KIND_MASK};
 use std::alloc::Global;
 
 /// A word becomes the header of an object, whose height it was; the header is told without its height.
-pub fn put_header(
-    alloc: Global,
-    word: u32,
-    header: u64,
-    rest: LowCode,
-) -> Result<LowCode, OutOfMemory>
+pub fn put_header(alloc: Global, word: u32, header: u64, rest: LowCode) -> CodeResult
     ensures { IfOk result (λ code. code_of code ≡ put_header word header (code_of rest)) }
 {
     let rest = compute(alloc, WordOp::Add, word, (Word(word), Number(header)), rest)?;
@@ -42,12 +35,7 @@ pub fn put_header(
 }
 
 /// The header of the object whose address is in a word goes into the first of two words, and its kind into the second.
-pub fn load_kind(
-    alloc: Global,
-    words: (u32, u32),
-    object: u32,
-    rest: LowCode,
-) -> Result<LowCode, OutOfMemory>
+pub fn load_kind(alloc: Global, words: (u32, u32), object: u32, rest: LowCode) -> CodeResult
     ensures { IfOk result (λ code. code_of code ≡ Load words.0 (Word object) 0
         (Compute And words.1 (Word words.0) (Number kind_mask) (code_of rest))) }
 {
@@ -63,12 +51,7 @@ pub fn load_kind(
 }
 
 /// One of two codes is done, by whether a word is the number of a kind.
-pub fn by_kind(
-    alloc: Global,
-    word: u32,
-    wanted: Kind,
-    branches: (LowCode, LowCode),
-) -> Result<LowCode, OutOfMemory>
+pub fn by_kind(alloc: Global, word: u32, wanted: Kind, branches: (LowCode, LowCode)) -> CodeResult
     ensures { IfOk result (λ code. code_of code ≡ either Eq (Word word) (Number (kind_number wanted))
         (code_of branches.0) (code_of branches.1)) }
 {
@@ -76,25 +59,25 @@ pub fn by_kind(
 }
 
 /// A source is returned where a word is 0, and else the rest is done.
-pub fn unless_zero(
-    alloc: Global,
-    word: u32,
-    answer: LowSource,
-    rest: LowCode,
-) -> Result<LowCode, OutOfMemory>
+pub fn unless_zero(alloc: Global, word: u32, answer: LowSource, rest: LowCode) -> CodeResult
     ensures { IfOk result (λ code. code_of code ≡ either Eq (Word word) (Number 0) (Return answer) (code_of rest)) }
 {
     let branches = (LowCode::Return(answer), rest);
     either(alloc, Cond::Eq, (Word(word), Number(0)), branches)
 }
 
-/// A procedure that takes so many words, and has so many.
-pub fn proc(params: u32, words: u32, code: LowCode) -> LowProc
-    ensures { proc_of result ≡ proc params words (code_of code) }
+/// A source is returned where the word of a coercion is 0, and else the coercion's header goes into the first of two
+/// words and its kind into the second, and then the rest is done.
+pub fn load_unless_id(
+    alloc: Global,
+    words: (u32, u32),
+    coercion: u32,
+    answer: LowSource,
+    rest: LowCode,
+) -> CodeResult
+    ensures { IfOk result (λ code. code_of code ≡ either Eq (Word coercion) (Number 0) (Return answer)
+        (Load words.0 (Word coercion) 0 (Compute And words.1 (Word words.0) (Number kind_mask) (code_of rest)))) }
 {
-    LowProc {
-        params,
-        words,
-        code,
-    }
+    let rest = load_kind(alloc, words, coercion, rest)?;
+    unless_zero(alloc, coercion, answer, rest)
 }

@@ -6,7 +6,7 @@ ghost use Rattle.rt_cast.specs.CoerceCodes.{coerce_fail, coerce_alike, coerce_he
 ghost use Rattle.rt_cast.specs.CoerceCodes.{coerce_from_dyn, coerce_to_dyn};
 ghost use Rattle.rt_cast.specs.Procs.{coerce_proc};
 
-use crate::codes::{by_kind, load_kind, proc, put_header};
+use crate::codes::{by_kind, load_kind, put_header};
 use crate::numbers::{COERCE_MIDDLES, CastProc};
 use crate::parts::pick;
 use crate::words::{header, kind};
@@ -14,7 +14,7 @@ use grift_base::lists::OutOfMemory;
 use grift_base::made::both;
 use low_ir::code::LowSource::{Number, Word};
 use low_ir::code::{LowCode, WordOp};
-use low_ir::codes::{build, call, compute, either, tail_call};
+use low_ir::codes::{build, call, compute, either, proc, tail_call};
 use low_ir::programs::LowProc;
 use machine_words::conditions::Cond;
 use object_layout::kinds::Kind;

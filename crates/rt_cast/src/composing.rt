@@ -6,7 +6,7 @@ ghost use Rattle.rt_cast.specs.ComposeCodes.{compose_project, compose_inject, co
 ghost use Rattle.rt_cast.specs.ComposeCodes.{compose_middle, compose_third, compose_second, compose_first};
 ghost use Rattle.rt_cast.specs.Procs.{compose_proc};
 
-use crate::codes::{by_kind, load_kind, proc, put_header, unless_zero};
+use crate::codes::{by_kind, load_unless_id, put_header};
 use crate::numbers::{CastProc, MIDDLES};
 use crate::parts::pick;
 use crate::words::header;
@@ -14,7 +14,7 @@ use grift_base::lists::OutOfMemory;
 use grift_base::made::both;
 use low_ir::code::LowSource::{Number, Word};
 use low_ir::code::{LowCode, WordOp};
-use low_ir::codes::{build, call, compute, either, load, tail_call};
+use low_ir::codes::{build, call, compute, either, load, proc, tail_call};
 use low_ir::programs::LowProc;
 use machine_words::conditions::Cond;
 use object_layout::kinds::Kind;
@@ -118,8 +118,7 @@ fn compose_first(alloc: Global, first: u32) -> Result<LowCode, OutOfMemory>
     requires room { first + 27 ≤ 2 ^ 32 }
     ensures { IfOk result (λ code. code_of code ≡ compose_first first) }
 {
-    let rest = load_kind(alloc, (4, 5), 1, compose_third(alloc, first)?)?;
-    let second = unless_zero(alloc, 1, Word(0), rest)?;
+    let second = load_unless_id(alloc, (4, 5), 1, Word(0), compose_third(alloc, first)?)?;
     let branches = (LowCode::Return(Word(0)), second);
     let rest = by_kind(alloc, 3, Kind::Fail, branches);
     let branches = both(compose_project(alloc, first), rest)?;
@@ -131,6 +130,6 @@ pub fn compose_proc(alloc: Global, first: u32) -> Result<LowProc, OutOfMemory>
     requires room { first + 27 ≤ 2 ^ 32 }
     ensures { IfOk result (λ proc. proc_of proc ≡ compose_proc first) }
 {
-    let rest = load_kind(alloc, (2, 3), 0, compose_first(alloc, first)?)?;
-    Ok(proc(2, 12, unless_zero(alloc, 0, Word(1), rest)?))
+    let rest = load_unless_id(alloc, (2, 3), 0, Word(1), compose_first(alloc, first)?)?;
+    Ok(proc(2, 12, rest))
 }

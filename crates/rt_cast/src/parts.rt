@@ -5,18 +5,18 @@ ghost use Rattle.machine_words.specs.declared.conditions.Cond.TheVariants.{Eq};
 ghost use Rattle.low_ir.specs.declared.code.LowSource.TheVariants.{Word};
 ghost use Rattle.low_ir.specs.Procedures.{TailCall};
 ghost use Rattle.low_ir.specs.Views.{code_of, proc_of};
-ghost use Rattle.rt_cast.specs.PartCodes.{results, finish_code, part_step, parts_code};
+ghost use Rattle.rt_cast.specs.PartCodes.{finish_code, part_step, parts_code};
 ghost use Rattle.low_ir.specs.Codes.{proc, either};
 ghost use Rattle.rt_cast.specs.PartCodes.{middle_code, apart, part_turns, pick};
 ghost use Rattle.rt_cast.specs.Procs.{raise_proc, final_proc};
 
-use crate::codes::{by_kind, load_kind, proc, unless_zero};
+use crate::codes::{by_kind, load_unless_id, unless_zero};
 use crate::numbers::MOST_PARTS;
 use grift_base::lists::OutOfMemory;
 use grift_base::made::both;
 use low_ir::code::LowSource::{Number, Word};
 use low_ir::code::{LowCode, LowSource, WordOp};
-use low_ir::codes::{build, call, compute, either, load, set, tail_call};
+use low_ir::codes::{build, call, compute, either, load, proc, set, tail_call, with_words};
 use low_ir::programs::LowProc;
 use machine_words::conditions::Cond;
 use object_layout::kinds::Kind;
@@ -40,21 +40,8 @@ pub fn final_proc(alloc: Global) -> Result<LowProc, OutOfMemory>
     ensures { IfOk result (λ proc. proc_of proc ≡ final_proc) }
 {
     let ends = (LowCode::Return(Number(0)), LowCode::Return(Word(0)));
-    let rest = load_kind(alloc, (1, 1), 0, by_kind(alloc, 1, Kind::Project, ends)?)?;
-    Ok(proc(1, 2, unless_zero(alloc, 0, Word(0), rest)?))
-}
-
-// The header and the words of the parts, in the order in which they stand in the object.
-fn finished_words(alloc: Global, total: u32) -> Result<Vec<LowSource>, OutOfMemory>
-    requires few { total ≤ 8 }
-    ensures { IfOk result (λ words. words.items ≡ Word 5 ∷ results total 0) }
-{
-    let mut words = Vec::new(alloc);
-    words.push(Word(5))?;
-    for k in 0..total {
-        words.push(Word(16 + k))?;
-    }
-    Ok(words)
+    let rest = by_kind(alloc, 1, Kind::Project, ends)?;
+    Ok(proc(1, 2, load_unless_id(alloc, (1, 1), 0, Word(0), rest)?))
 }
 
 // The object of so many parts, or 0 where all are Id.
@@ -62,7 +49,7 @@ fn finish_code(alloc: Global, total: u32) -> Result<LowCode, OutOfMemory>
     requires few { total ≤ 8 }
     ensures { IfOk result (λ code. code_of code ≡ finish_code total) }
 {
-    let words = finished_words(alloc, total)?;
+    let words = with_words(alloc, Word(5), 16, total)?;
     let rest = build(alloc, 7, words.as_slice(), LowCode::Return(Word(7)))?;
     let count = u64::from(total) * COUNT_UNIT;
     let rest = compute(alloc, WordOp::Add, 5, (Word(5), Number(count)), rest)?;

@@ -2,7 +2,7 @@
 
 ghost use Rattle.std.specs.Prelude.{◌≡◌, ◌+◌, ◌≤◌, ◌^◌, ◌++◌, ◌∷◌, [], List, IfOk};
 ghost use Rattle.low_ir.specs.Procedures.{Proc};
-ghost use Rattle.low_ir.specs.Views.{proc_of, procs_of};
+ghost use Rattle.low_ir.specs.Views.{procs_of};
 ghost use Rattle.rt_cast.specs.Procs.{middles_from, cast_procs};
 
 use crate::casting::{cast_proc, project_proc};
@@ -11,23 +11,10 @@ use crate::composing::compose_proc;
 use crate::numbers::{CastProc, MOST_PARTS};
 use crate::parts::{Making, final_proc, middle_proc, part_proc, raise_proc};
 use grift_base::lists::OutOfMemory;
-use grift_base::made::both;
 use low_ir::code::LowSource::Word;
-use low_ir::programs::{LowProc, LowProcs};
+use low_ir::codes::with_proc;
+use low_ir::programs::LowProcs;
 use std::alloc::Global;
-
-// A procedure goes last, where it and those before it were made. So its caller holds no value at an exit.
-fn with_proc(
-    procs: Result<LowProcs, OutOfMemory>,
-    made: Result<LowProc, OutOfMemory>,
-) -> Result<LowProcs, OutOfMemory>
-    ensures { (before : List Proc) (last : Proc) → IfOk procs (λ all. procs_of all ≡ before)
-        → IfOk made (λ p. proc_of p ≡ last) → IfOk result (λ all. procs_of all ≡ before ++ last ∷ []) }
-{
-    let (mut procs, made) = both(procs, made)?;
-    procs.push(made)?;
-    Ok(procs)
-}
 
 // The procedures for no parts to eight parts go last.
 fn with_middles(

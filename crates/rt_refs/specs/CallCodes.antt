@@ -5,12 +5,11 @@ use Rattle.machine_words.specs.declared.conditions.Cond.TheVariants.{Eq}
 use Rattle.low_ir.specs.declared.code.LowSource.{LowSource}
 use Rattle.low_ir.specs.declared.code.LowSource.TheVariants.{Word, Number}
 use Rattle.low_ir.specs.Procedures.{Code, Load, Call, CallAt, TailCall, Proc}
-use Rattle.low_ir.specs.Codes.{proc, either}
+use Rattle.low_ir.specs.Codes.{proc, either, words_from}
 
--- so many words of arguments, from one on
+-- so many words of arguments, behind those of the first k
 abbrev pub argument_words : ℕ → ℕ → List LowSource
-argument_words zero k = []
-argument_words (suc j) k = Word (suc k) ∷ argument_words j (suc k)
+argument_words j k = words_from j (suc k)
 
 -- told the procedure of casts, and what is done where all arguments are cast, by their number
 module _ (cast : ℕ) (last : ℕ → Code) where

@@ -4,7 +4,6 @@
 
 pub mod calls;
 pub mod cells;
-pub mod codes;
 pub mod fills;
 pub mod laws;
 pub mod numbers;

@@ -1,7 +1,9 @@
 // The procedures of product, quotient and remainder, and all procedures of this crate in order.
 
 ghost use Rattle.std.specs.Prelude.{◌≡◌, ◌+◌, ◌≤◌, ◌^◌, ◌++◌, List, IfOk};
-ghost use Rattle.low_ir.specs.Procedures.{Proc};
+ghost use Rattle.machine_words.specs.declared.conditions.Cond.TheVariants.{Eq};
+ghost use Rattle.low_ir.specs.declared.code.LowSource.TheVariants.{Number, Word};
+ghost use Rattle.low_ir.specs.Procedures.{Proc, If};
 ghost use Rattle.low_ir.specs.Views.{code_of, proc_of, procs_of};
 ghost use Rattle.rt_refs.specs.Products.{sum_code, product_loop, multiply};
 ghost use Rattle.rt_refs.specs.Quotients.{signed_answer, subtract_code, next_bit, quotient_loop, magnitude_code};
@@ -11,7 +13,6 @@ ghost use Rattle.rt_refs.specs.RefProcs.{ref_procs};
 
 use crate::calls::apply_proc;
 use crate::cells::{read_proc, write_proc};
-use crate::codes::{proc, with_proc};
 use crate::fills::{fill_loop, fill_proc};
 use crate::numbers::RefProc;
 use grift_base::lists::OutOfMemory;
@@ -19,7 +20,7 @@ use grift_base::made::both;
 use grift_base::verdicts::Trap;
 use low_ir::code::LowSource::{Number, Word};
 use low_ir::code::{LowCode, LowSource, WordOp};
-use low_ir::codes::{choose, compute, set, tail_call, trap};
+use low_ir::codes::{CodeResult, choose, compute, proc, set, tail_call, trap, with_proc};
 use low_ir::programs::{LowProc, LowProcs};
 use machine_words::conditions::Cond;
 use std::alloc::Global;
@@ -87,6 +88,15 @@ fn multiply(alloc: Global, loop_number: u32) -> Result<LowProc, OutOfMemory>
     Ok(proc(2, 2, code))
 }
 
+// What is done where a word says that the quotient is asked for, what where it is the remainder, and what behind both.
+fn by_asked(alloc: Global, word: u32, ways: (LowCode, LowCode), rest: LowCode) -> CodeResult
+    ensures { IfOk result (λ code. code_of code ≡ If Eq (Word word) (Number 0) (code_of ways.0) (code_of ways.1)
+        (code_of rest)) }
+{
+    let asked = (Word(word), Number(ASKS_QUOTIENT));
+    choose(alloc, Cond::Eq, asked, ways, rest)
+}
+
 // The quotient or the remainder, with its sign.
 fn signed_answer(alloc: Global) -> Result<LowCode, OutOfMemory>
     ensures { IfOk result (λ code. code_of code ≡ signed_answer) }
@@ -96,14 +106,7 @@ fn signed_answer(alloc: Global) -> Result<LowCode, OutOfMemory>
     let end = LowCode::Return(Word(2));
     let rest = choose(alloc, Cond::Lt, (Word(5), Number(0)), ways, end);
     let (quotient, rest) = both(set(alloc, 2, Word(3), LowCode::Done), rest)?;
-    let ways = (quotient, LowCode::Done);
-    choose(
-        alloc,
-        Cond::Eq,
-        (Word(6), Number(ASKS_QUOTIENT)),
-        ways,
-        rest,
-    )
+    by_asked(alloc, 6, (quotient, LowCode::Done), rest)
 }
 
 // Where the remainder has grown to the divisor it loses it, and the quotient gains one.
@@ -157,13 +160,7 @@ fn signs(alloc: Global, loop_number: u32) -> Result<LowCode, OutOfMemory>
     let quotient = compute(alloc, WordOp::Xor, 5, (Word(0), Word(1)), LowCode::Done);
     let ways = both(quotient, set(alloc, 5, Word(0), LowCode::Done));
     let (ways, rest) = both(ways, tail_call(alloc, loop_number, &FIRST_WORDS))?;
-    choose(
-        alloc,
-        Cond::Eq,
-        (Word(2), Number(ASKS_QUOTIENT)),
-        ways,
-        rest,
-    )
+    by_asked(alloc, 2, ways, rest)
 }
 
 // The procedure of quotient and remainder, told the number of its loop.

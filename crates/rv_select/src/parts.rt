@@ -4,7 +4,7 @@ ghost use Rattle.std.specs.Prelude.{◌≡◌, ◌+◌, ◌*◌, ◌<◌, ◌≤
 ghost use Rattle.rv_select.specs.Run.{fits_item};
 ghost use Rattle.rv_select.specs.Select.{put_item, source_reg, source_items, args_items, params_items, stores_items};
 ghost use Rattle.rv_select.specs.Select.{compute_items, load_items, store_items, build_items, request_items};
-ghost use Rattle.rv_select.specs.Select.{take_items, environment_items, call_items, call_at_items, branch_items};
+ghost use Rattle.rv_select.specs.Select.{take_items, environment_items, call_at_items, branch_items};
 ghost use Rattle.rv_select.specs.Select.{tail_call_at_items, out_items, answer_items};
 
 use crate::code::{VReg, VirtualItem, VirtualItems};
@@ -17,6 +17,9 @@ use grift_base::lists::OutOfMemory;
 use low_ir::code::{LowSource, LowSources, WordOp};
 use machine_words::conditions::Cond;
 use rv_isa::number::Reg;
+
+/// What comes of putting items behind others: want of memory, or else nothing.
+pub type Put = Result<(), OutOfMemory>;
 
 // A real register, by its number.
 pub fn real(number: u8) -> VReg
@@ -62,7 +65,7 @@ fn source_reg(first: u32, scratch: u8, a: LowSource) -> Result<VReg, OutOfMemory
 }
 
 // Adds what puts a source there.
-fn put_source(items: &mut VirtualItems, scratch: u8, a: LowSource) -> Result<(), OutOfMemory>
+fn put_source(items: &mut VirtualItems, scratch: u8, a: LowSource) -> Put
     requires { scratch < 32 }
     ensures { OnOk result (items.new ≡ items.old ++ source_items scratch a) }
 {
@@ -96,7 +99,7 @@ pub fn put_compute(
     word: u32,
     a: LowSource,
     b: LowSource,
-) -> Result<(), OutOfMemory>
+) -> Put
     ensures { OnOk result (items.new ≡ items.old ++ compute_items first op word a b []) }
 {
     put_source(items, FIRST_SCRATCH, a)?;
@@ -114,13 +117,7 @@ pub fn put_compute(
 }
 
 // Adds a load.
-pub fn put_load(
-    items: &mut VirtualItems,
-    first: u32,
-    word: u32,
-    a: LowSource,
-    offset: u32,
-) -> Result<(), OutOfMemory>
+pub fn put_load(items: &mut VirtualItems, first: u32, word: u32, a: LowSource, offset: u32) -> Put
     ensures { OnOk result (items.new ≡ items.old ++ load_items first word a offset []) }
 {
     put_source(items, FIRST_SCRATCH, a)?;
@@ -138,7 +135,7 @@ pub fn put_store(
     b: LowSource,
     a: LowSource,
     offset: u32,
-) -> Result<(), OutOfMemory>
+) -> Put
     ensures { OnOk result (items.new ≡ items.old ++ store_items first b a offset []) }
 {
     put_source(items, FIRST_SCRATCH, a)?;
@@ -151,7 +148,7 @@ pub fn put_store(
 }
 
 // Adds the items that hand words on.
-pub fn put_args(items: &mut VirtualItems, first: u32, args: &LowSources) -> Result<(), OutOfMemory>
+pub fn put_args(items: &mut VirtualItems, first: u32, args: &LowSources) -> Put
     requires { length args.now ≤ 8 }
     ensures { OnOk result (items.new ≡ items.old ++ args_items first 0 args.now) }
 {
@@ -163,13 +160,7 @@ pub fn put_args(items: &mut VirtualItems, first: u32, args: &LowSources) -> Resu
 }
 
 // Adds the mark of a procedure, and the items that put the words that it is handed into its first registers.
-pub fn put_head(
-    items: &mut VirtualItems,
-    number: u32,
-    first: u32,
-    words: u32,
-    params: u32,
-) -> Result<(), OutOfMemory>
+pub fn put_head(items: &mut VirtualItems, number: u32, first: u32, words: u32, params: u32) -> Put
     requires { params ≤ 8 }
     ensures { OnOk result (
         items.new ≡ items.old ++ (VirtualItem.Procedure number first words ∷ params_items first 0 params)) }
@@ -182,7 +173,7 @@ pub fn put_head(
 }
 
 // Adds the items that store words behind the allocation word.
-fn put_stores(items: &mut VirtualItems, first: u32, args: &LowSources) -> Result<(), OutOfMemory>
+fn put_stores(items: &mut VirtualItems, first: u32, args: &LowSources) -> Put
     requires { length args.now < 256 }
     ensures { OnOk result (items.new ≡ items.old ++ stores_items first 0 args.now) }
 {
@@ -202,7 +193,7 @@ pub fn put_build(
     out: u32,
     word: u32,
     args: &LowSources,
-) -> Result<(), OutOfMemory>
+) -> Put
     requires { length args.now < 256 }
     ensures { OnOk result (items.new ≡ items.old ++ build_items first out word args.now []) }
 {
@@ -217,13 +208,7 @@ pub fn put_build(
 }
 
 // Adds the items that ask for room.
-pub fn put_request(
-    items: &mut VirtualItems,
-    first: u32,
-    out: u32,
-    word: u32,
-    a: LowSource,
-) -> Result<(), OutOfMemory>
+pub fn put_request(items: &mut VirtualItems, first: u32, out: u32, word: u32, a: LowSource) -> Put
     ensures { OnOk result (items.new ≡ items.old ++ request_items first out word a []) }
 {
     let free = real(FIRST_SCRATCH);
@@ -236,7 +221,7 @@ pub fn put_request(
 }
 
 // Adds the items that move the allocation word.
-pub fn put_take(items: &mut VirtualItems, first: u32, a: LowSource) -> Result<(), OutOfMemory>
+pub fn put_take(items: &mut VirtualItems, first: u32, a: LowSource) -> Put
     ensures { OnOk result (items.new ≡ items.old ++ take_items first a []) }
 {
     let bytes = real(FIRST_SCRATCH);
@@ -258,7 +243,7 @@ pub fn put_environment(
     number: u64,
     handed: (LowSource, LowSource),
     words: (u32, u32),
-) -> Result<(), OutOfMemory>
+) -> Put
     ensures { OnOk result (
         items.new ≡ items.old ++ environment_items first number handed.0 handed.1 words.0 words.1 []) }
 {
@@ -271,19 +256,20 @@ pub fn put_environment(
     items.push(VirtualItem::Move(local(first, words.1)?, two))
 }
 
-// Adds a call of a procedure, by its number.
+// Adds a call: what hands words on, the item that calls, and what puts the answer into a word.
 pub fn put_call(
     items: &mut VirtualItems,
     first: u32,
     word: u32,
-    number: u32,
     args: &LowSources,
-) -> Result<(), OutOfMemory>
+    call: VirtualItem,
+) -> Put
     requires { length args.now ≤ 8 }
-    ensures { OnOk result (items.new ≡ items.old ++ call_items first word number args.now []) }
+    ensures { OnOk result (items.new ≡ items.old ++ args_items first 0 args.now
+        ++ call ∷ VirtualItem.Move (VReg.Virtual (first + word)) (VReg.Real ANSWER) ∷ []) }
 {
     put_args(items, first, args)?;
-    items.push(VirtualItem::Call(number, args.len() as u32))?;
+    items.push(call)?;
     items.push(VirtualItem::Move(local(first, word)?, real(ANSWER)))
 }
 
@@ -294,14 +280,19 @@ pub fn put_call_at(
     word: u32,
     at: LowSource,
     args: &LowSources,
-) -> Result<(), OutOfMemory>
+) -> Put
     requires { length args.now ≤ 8 }
     ensures { OnOk result (items.new ≡ items.old ++ call_at_items first word at args.now []) }
 {
     put_source(items, THIRD_SCRATCH, at)?;
-    put_args(items, first, args)?;
-    items.push(VirtualItem::CallAt(source_reg(first, THIRD_SCRATCH, at)?, args.len() as u32))?;
-    items.push(VirtualItem::Move(local(first, word)?, real(ANSWER)))
+    let from = source_reg(first, THIRD_SCRATCH, at)?;
+    put_call(
+        items,
+        first,
+        word,
+        args,
+        VirtualItem::CallAt(from, args.len() as u32),
+    )
 }
 
 // Adds a branch to a mark, taken where the condition holds.
@@ -311,7 +302,7 @@ pub fn put_branch(
     cond: Cond,
     operands: (LowSource, LowSource),
     mark: u32,
-) -> Result<(), OutOfMemory>
+) -> Put
     ensures { OnOk result (items.new ≡ items.old ++ branch_items first cond operands.0 operands.1 mark []) }
 {
     let (a, b) = operands;
@@ -322,7 +313,7 @@ pub fn put_branch(
 }
 
 // Adds the procedure's answer.
-pub fn put_return(items: &mut VirtualItems, first: u32, a: LowSource) -> Result<(), OutOfMemory>
+pub fn put_return(items: &mut VirtualItems, first: u32, a: LowSource) -> Put
     ensures { OnOk result (
         items.new ≡ items.old ++ (put_item first (VReg.Real ANSWER) a ∷ VirtualItem.Return ∷ [])) }
 {
@@ -336,7 +327,7 @@ pub fn put_tail_call_at(
     first: u32,
     at: LowSource,
     args: &LowSources,
-) -> Result<(), OutOfMemory>
+) -> Put
     requires { length args.now ≤ 8 }
     ensures { OnOk result (items.new ≡ items.old ++ tail_call_at_items first at args.now) }
 {
@@ -346,7 +337,7 @@ pub fn put_tail_call_at(
 }
 
 // Adds the place where a request finds no room.
-pub fn put_out(items: &mut VirtualItems, out: u32) -> Result<(), OutOfMemory>
+pub fn put_out(items: &mut VirtualItems, out: u32) -> Put
     ensures { OnOk result (items.new ≡ items.old ++ out_items out) }
 {
     items.push(VirtualItem::Mark(out))?;
@@ -358,7 +349,7 @@ pub fn put_out(items: &mut VirtualItems, out: u32) -> Result<(), OutOfMemory>
 }
 
 // Adds the call of the procedure that the program begins with, and the program's answer.
-pub fn put_start(items: &mut VirtualItems, entry: u32) -> Result<(), OutOfMemory>
+pub fn put_start(items: &mut VirtualItems, entry: u32) -> Put
     ensures { OnOk result (items.new ≡ items.old ++ (VirtualItem.Call entry 0 ∷ answer_items)) }
 {
     items.push(VirtualItem::Call(entry, 0))?;

@@ -11,9 +11,9 @@ ghost use Rattle.rv_select.specs.Stepwise.{step_items, later};
 
 use crate::code::{VirtualCode, VirtualItem, VirtualItems};
 use crate::parts::{
-    local, put_args, put_branch, put_build, put_call, put_call_at, put_compute, put_environment,
-    put_head, put_item, put_load, put_out, put_request, put_return, put_start, put_store,
-    put_tail_call_at, put_take,
+    Put, local, put_args, put_branch, put_build, put_call, put_call_at, put_compute,
+    put_environment, put_head, put_item, put_load, put_out, put_request, put_return, put_start,
+    put_store, put_tail_call_at, put_take,
 };
 use grift_base::lists::OutOfMemory;
 use low_ir::code::LowCode;
@@ -37,12 +37,7 @@ fn fresh(marks: &mut u32) -> Result<u32, OutOfMemory>
 
 // Adds the items of the first step of a code, told the first register of its procedure and the mark behind which there
 // is no room; none for a branch and for a code address, which `put_code` puts.
-fn put_step(
-    items: &mut VirtualItems,
-    first: u32,
-    out: u32,
-    code: &LowCode,
-) -> Result<(), OutOfMemory>
+fn put_step(items: &mut VirtualItems, first: u32, out: u32, code: &LowCode) -> Put
     requires { HasSmallNumbers (code_of code.now) }
     ensures { OnOk result (items.new ≡ items.old ++ step_items first out (code_of code.now)) }
 {
@@ -58,7 +53,10 @@ fn put_step(
         LowCode::Environment(number, a, b, d, e, _) => {
             put_environment(items, first, *number, (*a, *b), (*d, *e))
         }
-        LowCode::Call(d, k, args, _) => put_call(items, first, *d, *k, args),
+        LowCode::Call(d, k, args, _) => {
+            let call = VirtualItem::Call(*k, args.len() as u32);
+            put_call(items, first, *d, args, call)
+        }
         LowCode::CallAt(d, f, args, _) => put_call_at(items, first, *d, *f, args),
         LowCode::Return(a) => put_return(items, first, *a),
         LowCode::TailCall(k, args) => {
@@ -97,13 +95,7 @@ fn later(code: &LowCode) -> Option<&LowCode>
 
 // Adds the items of a code, told the first register of its procedure and the mark behind which there is no room. A
 // recursion into branches alone.
-fn put_code(
-    items: &mut VirtualItems,
-    marks: &mut u32,
-    first: u32,
-    out: u32,
-    code: &LowCode,
-) -> Result<(), OutOfMemory>
+fn put_code(items: &mut VirtualItems, marks: &mut u32, first: u32, out: u32, code: &LowCode) -> Put
     requires { HasSmallNumbers (code_of code.now) }
     ensures items { OnOk result (items.new ≡ items.old ++ code_items first out marks.old (code_of code.now)) }
     ensures marks { OnOk result (marks.new ≡ marks.old + marks_in (code_of code.now)) }
@@ -144,7 +136,7 @@ fn put_proc(
     number: u32,
     first: u32,
     proc: &LowProc,
-) -> Result<(), OutOfMemory>
+) -> Put
     requires { IsSmall (proc_of proc.now) }
     ensures items { OnOk result (items.new ≡ items.old ++ proc_items number first marks.old (proc_of proc.now)) }
     ensures marks { OnOk result (marks.new ≡ marks.old + 1 + marks_in (code_of proc.now.code)) }

@@ -1,5 +1,6 @@
 // S-expressions.
 
+use grift_base::drop_along;
 use grift_base::lists::Name;
 use grift_base::places::Pos;
 use std::fmt::{self, Debug, Formatter, Write};
@@ -38,12 +39,7 @@ pub enum SexpList {
 impl Drop for SexpList {
     #[cycle(sexp)]
     fn drop(mut self) {
-        loop {
-            match self {
-                SexpList::Nil => return,
-                SexpList::Cons(_, rest) => self = Box::into_inner(rest),
-            }
-        }
+        drop_along!(self, SexpList)
     }
 }
 

@@ -1,6 +1,7 @@
 -- Lists that are read element by element: those that are done, and what is read behind them.
 use Rattle.std.proofs.Common.{◌≡◌, ℕ, List, [], ◌∷◌, ◌++◌, refl, sym, ap, subst, ◌∙◌}
 use Rattle.std.specs.Prelude.{Option, Result, Err, IsErrAnd}
+use Rattle.std.specs.Global.{Box}
 use Rattle.grift_base.specs.declared.refusals.FrontFault.{FrontFault}
 use Rattle.grift_base.specs.declared.refusals.FrontFault.TheVariants.{Refused, OutOfMemory}
 use Rattle.surface_trees.specs.declared.names.Ident.{Ident}
@@ -15,7 +16,7 @@ use Rattle.surface_syntax.specs.Pass.{Parsing, then_with, parse, parse_each, par
 use Rattle.surface_syntax.specs.Pass.{parse_letrecs}
 use Rattle.surface_trees.specs.Views.{expr_of, source_of}
 use Rattle.surface_syntax.specs.Parts.{exprs_before, lets_before, letrecs_before, name_of_binding, type_of_binding}
-use Rattle.surface_syntax.specs.Parts.{value_of_binding, name_of_member, type_of_member, fun_of_member}
+use Rattle.surface_syntax.specs.Parts.{value_of_binding, name_of_member, type_of_member, fun_of_member, in_box}
 use Rattle.surface_syntax.specs.Claims.{Parses}
 use Rattle.surface_syntax.proofs.Binds.{stopped, went_out}
 use Rattle.surface_syntax.proofs.FormRows.{stops}
@@ -93,36 +94,36 @@ loop_exit {S = S} before first next view wider names fault given result w e f h 
 
 -- ---- expressions
 
-abbrev put_expr : RustExpr → Exprs → Exprs
-put_expr e rest = ExprThen (expr_of e) rest
+abbrev put_expr : Box RustExpr → Exprs → Exprs
+put_expr e rest = ExprThen (expr_of e.value) rest
 
 exprs_stand : Before put_expr exprs_before
 exprs_stand = record { none = λ rest. refl; more = λ e es rest. refl }
 
-pub exprs_pop : (all es : List RustExpr) (e : RustExpr) (rest : Exprs) → all ≡ es ++ e ∷ []
-    → exprs_before es (ExprThen (expr_of e) rest) ≡ exprs_before all rest
+pub exprs_pop : (all es : List (Box RustExpr)) (e : Box RustExpr) (rest : Exprs) → all ≡ es ++ e ∷ []
+    → exprs_before es (ExprThen (expr_of e.value) rest) ≡ exprs_before all rest
 exprs_pop all es e rest same = popped put_expr exprs_before exprs_stand all es e rest same
 
-abbrev pub behind_exprs : List RustExpr → Walked (Exprs × ℕ) → Walked (Exprs × ℕ)
+abbrev pub behind_exprs : List (Box RustExpr) → Walked (Exprs × ℕ) → Walked (Exprs × ℕ)
 behind_exprs es w = with_list (exprs_before es) w
 
-pub each_more : (es : List RustExpr) (e : RustExpr) (s : Sexpr) (rest : Sexprs) (names next : ℕ)
+pub each_more : (es : List (Box RustExpr)) (e : Box RustExpr) (s : Sexpr) (rest : Sexprs) (names next : ℕ)
     (w : Walked (Exprs × ℕ))
-    → parse s names ≡ Reads (expr_of e, next) → behind_exprs es (parse_each (s ▹ rest) names) ≡ w
+    → parse s names ≡ Reads (expr_of e.value, next) → behind_exprs es (parse_each (s ▹ rest) names) ≡ w
     → behind_exprs (es ++ e ∷ []) (parse_each rest next) ≡ w
 each_more es e s rest names next w h same =
-    one_more put_expr exprs_before exprs_stand es e (parse s names) (λ expr. parse_each rest) ExprThen (expr_of e) next
-    w h (λ others. refl) same
+    one_more put_expr exprs_before exprs_stand es e (parse s names) (λ expr. parse_each rest) ExprThen
+    (expr_of e.value) next w h (λ others. refl) same
 
-pub each_exit : {S : Type 0} (es : List RustExpr) (s : Sexpr) (rest : Sexprs) (names next : ℕ)
-    (wider : S → Exprs) (fault : FrontFault) (given : Result RustExpr FrontFault) (result : Result S FrontFault)
+pub each_exit : {S : Type 0} (es : List (Box RustExpr)) (s : Sexpr) (rest : Sexprs) (names next : ℕ)
+    (wider : S → Exprs) (fault : FrontFault) (given : Result (Box RustExpr) FrontFault) (result : Result S FrontFault)
     (w : Walked (Exprs × ℕ))
-    → given ≡ Err fault → IsErrAnd result (λ f. f ≡ fault) → Parses given expr_of next (parse s names)
+    → given ≡ Err fault → IsErrAnd result (λ f. f ≡ fault) → Parses given (in_box expr_of) next (parse s names)
     → behind_exprs es (parse_each (s ▹ rest) names) ≡ w → Parses result wider next w
 each_exit es s rest names next wider fault given result w e f h same =
     loop_exit (exprs_before es) (parse s names) (λ expr names. then_with (parse_each rest names)
     (λ exprs names. Reads (ExprThen expr exprs, names)))
-    expr_of wider next fault given result w e f h same
+    (in_box expr_of) wider next fault given result w e f h same
 
 -- ---- bindings and members, of which each binds a name in a scope
 
@@ -135,14 +136,15 @@ pub record BindsNames {R L A : Type 0} (make : Ident → Option TypeExpr → A �
       ≡ then_with (read seen s names) (λ one names. then_with (all (seen ++ one.name ∷ []) rest names)
       (λ others names. Reads (make (Source one.name) one.written one.value others, names)))
 
-pub lets_bind : BindsNames LetThen name_of_binding type_of_binding value_of_binding lets_before parse_binding parse_lets
+pub lets_bind : BindsNames LetThen (in_box name_of_binding) (in_box type_of_binding) (in_box value_of_binding)
+    lets_before parse_binding parse_lets
 lets_bind = record {
   stand = record { none = λ rest. refl; more = λ b bs rest. refl };
   first = λ seen s rest names. refl;
 }
 
-pub letrecs_bind : BindsNames LetrecThen name_of_member type_of_member fun_of_member letrecs_before parse_member
-    parse_letrecs
+pub letrecs_bind : BindsNames LetrecThen (in_box name_of_member) (in_box type_of_member) (in_box fun_of_member)
+    letrecs_before parse_member parse_letrecs
 letrecs_bind = record {
   stand = record { none = λ rest. refl; more = λ m ms rest. refl };
   first = λ seen s rest names. refl;

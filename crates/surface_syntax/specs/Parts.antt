@@ -1,6 +1,7 @@
 -- The reader's own types as plain data, for the contracts of its private functions.
 use Rattle.surface_syntax.specs.declared.type_forms.Signature.{Signature as RustSignature}
 use Rattle.std.specs.Prelude.{ℕ, ℤ, pos, Bool, List, [], ◌∷◌, Option, Some, None}
+use Rattle.std.specs.Global.{Box}
 use Rattle.grift_base.specs.declared.places.Pos.{Pos}
 use Rattle.grift_base.specs.declared.refusals.RefusalKind.TheVariants.{BadForm}
 use Rattle.surface_syntax.specs.declared.type_forms.TypeHead.{TypeHead}
@@ -54,6 +55,10 @@ headed_type Other p (s ▹ rest) =
 
 -- ---- expressions
 
+-- what is on the heap, seen as this
+abbrev pub in_box : {A B : Type 0} → (A → B) → Box A → B
+in_box view b = view b.value
+
 -- a call whose function is no reserved word
 abbrev pub parse_call : Pos → Sexprs → Parsing Expr
 parse_call p end = refuse BadForm p
@@ -86,7 +91,7 @@ parse_behind p params (e ▹ rest) = do
 parse_behind p params end = refuse BadForm p
 
 abbrev pub range_of : RustRange → ParsedRange
-range_of r = record { counter = r.counter; first = expr_of r.first; bound = expr_of r.bound }
+range_of r = record { counter = r.counter; first = expr_of r.first.value; bound = expr_of r.bound.value }
 
 abbrev pub name_of_binding : RustBinding → Ident
 name_of_binding b = (out-Binding b).name
@@ -122,15 +127,16 @@ member_of m = record {
 
 -- ---- lists from vectors
 
-abbrev pub exprs_before : List RustExpr → Exprs → Exprs
+abbrev pub exprs_before : List (Box RustExpr) → Exprs → Exprs
 exprs_before [] rest = rest
-exprs_before (e ∷ es) rest = ExprThen (expr_of e) (exprs_before es rest)
+exprs_before (e ∷ es) rest = ExprThen (expr_of e.value) (exprs_before es rest)
 
-abbrev pub lets_before : List RustBinding → LetBindings → LetBindings
+abbrev pub lets_before : List (Box RustBinding) → LetBindings → LetBindings
 lets_before [] rest = rest
-lets_before (b ∷ bs) rest = LetThen (name_of_binding b) (type_of_binding b) (value_of_binding b) (lets_before bs rest)
+lets_before (b ∷ bs) rest =
+    LetThen (name_of_binding b.value) (type_of_binding b.value) (value_of_binding b.value) (lets_before bs rest)
 
-abbrev pub letrecs_before : List RustMember → LetrecMembers → LetrecMembers
+abbrev pub letrecs_before : List (Box RustMember) → LetrecMembers → LetrecMembers
 letrecs_before [] rest = rest
 letrecs_before (m ∷ ms) rest =
-    LetrecThen (name_of_member m) (type_of_member m) (fun_of_member m) (letrecs_before ms rest)
+    LetrecThen (name_of_member m.value) (type_of_member m.value) (fun_of_member m.value) (letrecs_before ms rest)

@@ -16,13 +16,13 @@ use Rattle.surface_trees.specs.Views.{written_of, expr_of, lambda_of, letrecs_of
 use Rattle.surface_syntax.specs.Parts.{typed_name}
 
 abbrev pub part_of : RustPart → Part
-part_of (ExprCase p e) = ExprPart p (expr_of e)
-part_of (ValueCase p x t e) = ValuePart p x (written_of t) (expr_of e)
-part_of (FunctionCase p x t l) = FunctionPart p x (written_of t) (lambda_of l)
+part_of (ExprCase p e) = ExprPart p (expr_of e.value)
+part_of (ValueCase p x t e) = ValuePart p x (written_of t) (expr_of e.value)
+part_of (FunctionCase p x t l) = FunctionPart p x (written_of t) (lambda_of l.value)
 
 abbrev pub rest_of : RustRest → Rest
-rest_of (AloneCase e) = Alone (expr_of e)
-rest_of (RunCase p members e) = Run p (letrecs_of members) (expr_of e)
+rest_of (AloneCase e) = Alone (expr_of e.value)
+rest_of (RunCase p members e) = Run p (letrecs_of members) (expr_of e.value)
 
 -- the definition of what stands there, which is no list, from what stands behind it
 abbrev pub parse_named : List (List ℕ) → Pos → Sexpr → Sexprs → Parsing Part

@@ -19,7 +19,7 @@ pub fn push<T: Drop>(gathered: &mut Vec<T>, last: T) -> Result<(), OutOfMemory>
 }
 
 /// These expressions as a list.
-pub fn expr_list(alloc: Global, mut gathered: Vec<Expr>) -> Result<ExprList, OutOfMemory>
+pub fn expr_list(alloc: Global, mut gathered: Vec<Box<Expr>>) -> Result<ExprList, OutOfMemory>
     ensures { IfOk result (λ list. exprs_of list ≡ exprs_before gathered.items NoExprs) }
 {
     let mut list = ExprList::Nil;
@@ -30,7 +30,7 @@ pub fn expr_list(alloc: Global, mut gathered: Vec<Expr>) -> Result<ExprList, Out
 }
 
 /// These bindings as a list.
-pub fn binding_list(alloc: Global, mut gathered: Vec<Binding>) -> Result<Bindings, OutOfMemory>
+pub fn binding_list(alloc: Global, mut gathered: Vec<Box<Binding>>) -> Result<Bindings, OutOfMemory>
     ensures { IfOk result (λ list. lets_of list ≡ lets_before gathered.items NoLets) }
 {
     let mut list = Bindings::Nil;
@@ -41,7 +41,7 @@ pub fn binding_list(alloc: Global, mut gathered: Vec<Binding>) -> Result<Binding
 }
 
 /// These members as a list.
-pub fn member_list(alloc: Global, mut gathered: Vec<Member>) -> Result<Members, OutOfMemory>
+pub fn member_list(alloc: Global, mut gathered: Vec<Box<Member>>) -> Result<Members, OutOfMemory>
     ensures { IfOk result (λ list. letrecs_of list ≡ letrecs_before gathered.items NoLetrecs) }
 {
     let mut list = Members::Nil;

@@ -1,20 +1,22 @@
-// Derived forms in terms of the others.
+// Expressions on the heap, form by form, and derived forms in terms of these.
 
 ghost use Rattle.std.specs.Prelude.{◌≡◌, ◌∷◌, [], ℕ, List, IfOk, Some, None};
 ghost use Rattle.type_graph.specs.Rows.{row_of};
 ghost use Rattle.surface_trees.specs.declared.names.Ident.TheVariants.{Source, Fresh};
 ghost use Rattle.surface_trees.specs.Trees.{TypeAt, BaseType, ExprAt, PrimNode, IfNode, BeginNode, CallNode};
-ghost use Rattle.surface_trees.specs.Trees.{LetrecNode, ExprThen, LetThen, NoLets, NoLetrecs, LetrecThen};
+ghost use Rattle.surface_trees.specs.Trees.{LetNode, LetrecNode, ExprThen, LetThen, NoLets, NoLetrecs, LetrecThen};
+ghost use Rattle.surface_trees.specs.Trees.{IntNode, BoolNode, UnitNode, LambdaNode, LambdaAt, TupleNode, ProjNode};
+ghost use Rattle.surface_trees.specs.Trees.{AscribeNode};
 ghost use Rattle.surface_syntax.specs.Expansion.{linked, one_expr, two_exprs, name_at, int_at, typed_param, goes_on};
 ghost use Rattle.surface_syntax.specs.Expansion.{chain_of, next_count, loop_of, counting, gathering, repeat_of};
 ghost use Rattle.surface_syntax.specs.Expansion.{repeat_into_of, type_or_dyn};
 ghost use Rattle.surface_trees.specs.Views.{type_of, written_of, param_of, params_of, expr_of, exprs_of, lets_of};
-ghost use Rattle.surface_trees.specs.Views.{source_of, lambda_of, letrecs_of};
+ghost use Rattle.surface_trees.specs.Views.{source_of, node_of, lambda_of, letrecs_of};
 ghost use Rattle.surface_syntax.specs.Parts.{name_of_binding, type_of_binding, value_of_binding};
 ghost use Rattle.surface_syntax.specs.Parts.{name_of_member, type_of_member, fun_of_member};
 
 use grift_base::lists::{Name, OutOfMemory};
-use grift_base::made::{beside, both, both_boxed, boxed};
+use grift_base::made::{beside, both, boxed};
 use grift_base::operators::PrimOp;
 use grift_base::places::Pos;
 use std::alloc::Global;
@@ -37,8 +39,8 @@ pub struct LoopNames {
 #[derive(Drop)]
 pub struct Range {
     pub counter: Name,
-    pub first: Expr,
-    pub bound: Expr,
+    pub first: Box<Expr>,
+    pub bound: Box<Expr>,
 }
 
 /// A name of the source.
@@ -58,20 +60,165 @@ fn bytes_of(alloc: Global, name: &Ident) -> Result<Name, OutOfMemory>
     }
 }
 
-fn name_at(pos: Pos, name: Ident) -> Expr
-    ensures { expr_of result ≡ name_at pos name }
+// What an expression is, on the heap. Readers hand it on there, since what a proof costs goes by the types that a
+// function holds: a box shows nothing of what is in it.
+fn placed(alloc: Global, pos: Pos, node: ExprNode) -> Result<Box<Expr>, OutOfMemory>
+    ensures { IfOk result (λ e. expr_of e.value ≡ ExprAt pos (node_of node)) }
 {
-    Expr {
+    boxed(alloc, Expr { pos, node })
+}
+
+/// An integer.
+pub fn integer_at(alloc: Global, pos: Pos, number: i64) -> Result<Box<Expr>, OutOfMemory>
+    ensures { IfOk result (λ e. expr_of e.value ≡ ExprAt pos (IntNode number)) }
+{
+    placed(alloc, pos, ExprNode::Int(number))
+}
+
+/// A truth value.
+pub fn truth_at(alloc: Global, pos: Pos, truth: bool) -> Result<Box<Expr>, OutOfMemory>
+    ensures { IfOk result (λ e. expr_of e.value ≡ ExprAt pos (BoolNode truth)) }
+{
+    placed(alloc, pos, ExprNode::Bool(truth))
+}
+
+/// The value `()`.
+pub fn unit_at(alloc: Global, pos: Pos) -> Result<Box<Expr>, OutOfMemory>
+    ensures { IfOk result (λ e. expr_of e.value ≡ ExprAt pos UnitNode) }
+{
+    placed(alloc, pos, ExprNode::Unit)
+}
+
+/// The use of a name.
+pub fn name_at(alloc: Global, pos: Pos, name: Ident) -> Result<Box<Expr>, OutOfMemory>
+    ensures { IfOk result (λ e. expr_of e.value ≡ name_at pos name) }
+{
+    placed(alloc, pos, ExprNode::Name(name))
+}
+
+/// A function as an expression.
+pub fn function_at(
+    alloc: Global,
+    pos: Pos,
+    lambda: Box<LambdaExpr>,
+) -> Result<Box<Expr>, OutOfMemory>
+    ensures { IfOk result (λ e. expr_of e.value ≡ ExprAt pos (LambdaNode (lambda_of lambda.value))) }
+{
+    placed(alloc, pos, ExprNode::Lambda(Box::into_inner(lambda)))
+}
+
+/// A function with these parameters, and the type of what it answers, where one is written.
+pub fn lambda_at(
+    alloc: Global,
+    pos: Pos,
+    params: Params,
+    answer: Option<TypeExpr>,
+    body: ExprList,
+) -> Result<Box<LambdaExpr>, OutOfMemory>
+    ensures { IfOk result (λ l. lambda_of l.value ≡ LambdaAt pos (params_of params) (written_of answer)
+        (exprs_of body)) }
+{
+    let lambda = LambdaExpr {
         pos,
-        node: ExprNode::Name(name),
-    }
+        params,
+        result: answer,
+        body,
+    };
+    boxed(alloc, lambda)
+}
+
+/// Expressions one after another.
+pub fn sequence_at(alloc: Global, pos: Pos, body: ExprList) -> Result<Box<Expr>, OutOfMemory>
+    ensures { IfOk result (λ e. expr_of e.value ≡ ExprAt pos (BeginNode (exprs_of body))) }
+{
+    placed(alloc, pos, ExprNode::Begin(body))
+}
+
+/// A tuple of these parts.
+pub fn tuple_at(alloc: Global, pos: Pos, parts: ExprList) -> Result<Box<Expr>, OutOfMemory>
+    ensures { IfOk result (λ e. expr_of e.value ≡ ExprAt pos (TupleNode (exprs_of parts))) }
+{
+    placed(alloc, pos, ExprNode::Tuple(parts))
+}
+
+/// The part of a tuple with this number, which stands at a place of its own.
+pub fn part_at(
+    alloc: Global,
+    pos: Pos,
+    tuple: Box<Expr>,
+    number: i64,
+    at: Pos,
+) -> Result<Box<Expr>, OutOfMemory>
+    ensures { IfOk result (λ e. expr_of e.value ≡ ExprAt pos (ProjNode (expr_of tuple.value) number at)) }
+{
+    placed(alloc, pos, ExprNode::Proj(tuple, number, at))
+}
+
+/// An expression at a written type.
+pub fn ascription_at(
+    alloc: Global,
+    pos: Pos,
+    inner: Box<Expr>,
+    ty: TypeExpr,
+) -> Result<Box<Expr>, OutOfMemory>
+    ensures { IfOk result (λ e. expr_of e.value ≡ ExprAt pos (AscribeNode (expr_of inner.value) (type_of ty))) }
+{
+    placed(alloc, pos, ExprNode::Ascribe(inner, ty))
+}
+
+/// An operator with these operands.
+pub fn operator_at(
+    alloc: Global,
+    pos: Pos,
+    operator: PrimOp,
+    operands: ExprList,
+) -> Result<Box<Expr>, OutOfMemory>
+    ensures { IfOk result (λ e. expr_of e.value ≡ ExprAt pos (PrimNode operator (exprs_of operands))) }
+{
+    placed(alloc, pos, ExprNode::Prim(operator, operands))
+}
+
+/// A call of what this expression is.
+pub fn called(
+    alloc: Global,
+    pos: Pos,
+    function: Box<Expr>,
+    arguments: ExprList,
+) -> Result<Box<Expr>, OutOfMemory>
+    ensures { IfOk result (λ e. expr_of e.value ≡ ExprAt pos (CallNode (expr_of function.value) (exprs_of arguments))) }
+{
+    placed(alloc, pos, ExprNode::Call(function, arguments))
+}
+
+/// Names for values, and the body.
+pub fn let_at(
+    alloc: Global,
+    pos: Pos,
+    bindings: Bindings,
+    body: ExprList,
+) -> Result<Box<Expr>, OutOfMemory>
+    ensures { IfOk result (λ e. expr_of e.value ≡ ExprAt pos (LetNode (lets_of bindings) (exprs_of body))) }
+{
+    placed(alloc, pos, ExprNode::Let(bindings, body))
+}
+
+/// Functions that may call one another, and the body.
+pub fn letrec_at(
+    alloc: Global,
+    pos: Pos,
+    members: Members,
+    body: ExprList,
+) -> Result<Box<Expr>, OutOfMemory>
+    ensures { IfOk result (λ e. expr_of e.value ≡ ExprAt pos (LetrecNode (letrecs_of members) (exprs_of body))) }
+{
+    placed(alloc, pos, ExprNode::Letrec(members, body))
 }
 
 // The use of a fresh name.
-fn fresh_at(pos: Pos, number: u32) -> Expr
-    ensures { expr_of result ≡ name_at pos (Fresh number) }
+fn fresh_at(alloc: Global, pos: Pos, number: u32) -> Result<Box<Expr>, OutOfMemory>
+    ensures { IfOk result (λ e. expr_of e.value ≡ name_at pos (Fresh number)) }
 {
-    name_at(pos, Ident::Fresh(number))
+    name_at(alloc, pos, Ident::Fresh(number))
 }
 
 // A type without parts.
@@ -92,34 +239,34 @@ fn int_at(pos: Pos) -> TypeExpr
 }
 
 /// An expression in front of others.
-pub fn cons(alloc: Global, first: Expr, rest: ExprList) -> Result<ExprList, OutOfMemory>
-    ensures { IfOk result (λ list. exprs_of list ≡ ExprThen (expr_of first) (exprs_of rest)) }
+pub fn cons(alloc: Global, first: Box<Expr>, rest: ExprList) -> Result<ExprList, OutOfMemory>
+    ensures { IfOk result (λ list. exprs_of list ≡ ExprThen (expr_of first.value) (exprs_of rest)) }
 {
-    let (first, rest) = both_boxed(alloc, first, rest)?;
+    let rest = boxed(alloc, rest)?;
     Ok(ExprList::Cons(first, rest))
 }
 
 /// One expression as a list.
-pub fn one(alloc: Global, expr: Expr) -> Result<ExprList, OutOfMemory>
-    ensures { IfOk result (λ list. exprs_of list ≡ one_expr (expr_of expr)) }
+pub fn one(alloc: Global, expr: Box<Expr>) -> Result<ExprList, OutOfMemory>
+    ensures { IfOk result (λ list. exprs_of list ≡ one_expr (expr_of expr.value)) }
 {
     cons(alloc, expr, ExprList::Nil)
 }
 
 /// Two expressions as a list.
-pub fn two(alloc: Global, first: Expr, second: Expr) -> Result<ExprList, OutOfMemory>
-    ensures { IfOk result (λ list. exprs_of list ≡ two_exprs (expr_of first) (expr_of second)) }
+pub fn two(alloc: Global, first: Box<Expr>, second: Box<Expr>) -> Result<ExprList, OutOfMemory>
+    ensures { IfOk result (λ list. exprs_of list ≡ two_exprs (expr_of first.value) (expr_of second.value)) }
 {
     let (first, rest) = beside(first, one(alloc, second))?;
     cons(alloc, first, rest)
 }
 
-// The use of a source's name.
-fn source_at(alloc: Global, pos: Pos, name: &Name) -> Result<Expr, OutOfMemory>
-    ensures { IfOk result (λ e. expr_of e ≡ name_at pos (Source name.now)) }
+/// The use of a source's name.
+pub fn source_at(alloc: Global, pos: Pos, name: &Name) -> Result<Box<Expr>, OutOfMemory>
+    ensures { IfOk result (λ e. expr_of e.value ≡ name_at pos (Source name.now)) }
 {
     let name = source(alloc, name)?;
-    Ok(name_at(pos, name))
+    name_at(alloc, pos, name)
 }
 
 fn typed_param(pos: Pos, name: Ident, ty: TypeExpr) -> Param
@@ -137,36 +284,31 @@ fn operation(
     alloc: Global,
     pos: Pos,
     operator: PrimOp,
-    first: Expr,
-    second: Expr,
-) -> Result<Expr, OutOfMemory>
-    ensures { IfOk result (λ e. expr_of e ≡ ExprAt pos (PrimNode operator (two_exprs (expr_of first)
-        (expr_of second)))) }
+    first: Box<Expr>,
+    second: Box<Expr>,
+) -> Result<Box<Expr>, OutOfMemory>
+    ensures { IfOk result (λ e. expr_of e.value ≡ ExprAt pos (PrimNode operator (two_exprs (expr_of first.value)
+        (expr_of second.value)))) }
 {
     let operands = two(alloc, first, second)?;
-    Ok(Expr {
-        pos,
-        node: ExprNode::Prim(operator, operands),
-    })
+    operator_at(alloc, pos, operator, operands)
 }
 
 // Whether the count is below the bound.
-fn goes_on(alloc: Global, pos: Pos, counter: &Name, bound: u32) -> Result<Expr, OutOfMemory>
-    ensures { IfOk result (λ e. expr_of e ≡ goes_on pos (Source counter.now) (Fresh bound)) }
+fn goes_on(alloc: Global, pos: Pos, counter: &Name, bound: u32) -> Result<Box<Expr>, OutOfMemory>
+    ensures { IfOk result (λ e. expr_of e.value ≡ goes_on pos (Source counter.now) (Fresh bound)) }
 {
-    let count = source_at(alloc, pos, counter)?;
-    operation(alloc, pos, PrimOp::Lt, count, fresh_at(pos, bound))
+    let count = source_at(alloc, pos, counter);
+    let (count, bound) = both(count, fresh_at(alloc, pos, bound))?;
+    operation(alloc, pos, PrimOp::Lt, count, bound)
 }
 
 // The next count.
-fn next_count(alloc: Global, pos: Pos, counter: &Name) -> Result<Expr, OutOfMemory>
-    ensures { IfOk result (λ e. expr_of e ≡ next_count pos (Source counter.now)) }
+fn next_count(alloc: Global, pos: Pos, counter: &Name) -> Result<Box<Expr>, OutOfMemory>
+    ensures { IfOk result (λ e. expr_of e.value ≡ next_count pos (Source counter.now)) }
 {
-    let count = source_at(alloc, pos, counter)?;
-    let step = Expr {
-        pos,
-        node: ExprNode::Int(1),
-    };
+    let count = source_at(alloc, pos, counter);
+    let (count, step) = both(count, integer_at(alloc, pos, 1))?;
     operation(alloc, pos, PrimOp::Add, count, step)
 }
 
@@ -177,14 +319,11 @@ pub(crate) fn chain(
     all: bool,
     pos: Pos,
     operands: ExprList,
-) -> Result<Expr, OutOfMemory>
-    ensures { IfOk result (λ e. expr_of e ≡ chain_of all pos (exprs_of operands)) }
+) -> Result<Box<Expr>, OutOfMemory>
+    ensures { IfOk result (λ e. expr_of e.value ≡ chain_of all pos (exprs_of operands)) }
 {
     let Some((first, rest)) = operands.split() else {
-        return Ok(Expr {
-            pos,
-            node: ExprNode::Bool(all),
-        });
+        return truth_at(alloc, pos, all);
     };
     if let ExprList::Nil = &rest {
         return Ok(first);
@@ -198,15 +337,12 @@ pub fn linked(
     alloc: Global,
     all: bool,
     pos: Pos,
-    first: Expr,
-    rest: Expr,
-) -> Result<Expr, OutOfMemory>
-    ensures { IfOk result (λ e. expr_of e ≡ linked all pos (expr_of first) (expr_of rest)) }
+    first: Box<Expr>,
+    rest: Box<Expr>,
+) -> Result<Box<Expr>, OutOfMemory>
+    ensures { IfOk result (λ e. expr_of e.value ≡ linked all pos (expr_of first.value) (expr_of rest.value)) }
 {
-    let known = Expr {
-        pos,
-        node: ExprNode::Bool(!all),
-    };
+    let ((first, rest), known) = beside((first, rest), truth_at(alloc, pos, !all))?;
     if all {
         return if_at(alloc, pos, first, rest, known);
     }
@@ -217,30 +353,28 @@ pub fn linked(
 pub fn if_at(
     alloc: Global,
     pos: Pos,
-    condition: Expr,
-    on_true: Expr,
-    on_false: Expr,
-) -> Result<Expr, OutOfMemory>
-    ensures { IfOk result (λ e. expr_of e ≡ ExprAt pos (IfNode (expr_of condition) (expr_of on_true)
-        (expr_of on_false))) }
+    condition: Box<Expr>,
+    on_true: Box<Expr>,
+    on_false: Box<Expr>,
+) -> Result<Box<Expr>, OutOfMemory>
+    ensures { IfOk result (λ e. expr_of e.value ≡ ExprAt pos (IfNode (expr_of condition.value) (expr_of on_true.value)
+        (expr_of on_false.value))) }
 {
-    let branches = both_boxed(alloc, on_true, on_false);
-    let (condition, (on_true, on_false)) = both(boxed(alloc, condition), branches)?;
-    Ok(Expr {
-        pos,
-        node: ExprNode::If(condition, on_true, on_false),
-    })
+    placed(alloc, pos, ExprNode::If(condition, on_true, on_false))
 }
 
 // A call of a function with a fresh name.
-fn call_at(alloc: Global, pos: Pos, function: u32, arguments: ExprList) -> Result<Expr, OutOfMemory>
-    ensures { IfOk result (λ e. expr_of e ≡ ExprAt pos (CallNode (name_at pos (Fresh function)) (exprs_of arguments))) }
+fn call_at(
+    alloc: Global,
+    pos: Pos,
+    function: u32,
+    arguments: ExprList,
+) -> Result<Box<Expr>, OutOfMemory>
+    ensures { IfOk result (λ e. expr_of e.value ≡ ExprAt pos (CallNode (name_at pos (Fresh function))
+        (exprs_of arguments))) }
 {
-    let function = boxed(alloc, fresh_at(pos, function))?;
-    Ok(Expr {
-        pos,
-        node: ExprNode::Call(function, arguments),
-    })
+    let (arguments, function) = beside(arguments, fresh_at(alloc, pos, function))?;
+    called(alloc, pos, function, arguments)
 }
 
 // One parameter as a list.
@@ -261,34 +395,73 @@ fn two_params(alloc: Global, first: Param, second: Param) -> Result<Params, OutO
     Ok(params)
 }
 
-// A typed binding of a fresh name.
-fn typed_binding(name: u32, ty: TypeExpr, value: Expr) -> Binding
-    ensures name { name_of_binding result ≡ Fresh name }
-    ensures written { type_of_binding result ≡ Some (type_of ty) }
-    ensures value { value_of_binding result ≡ expr_of value }
+/// A name for a value, and its type where one is written.
+pub fn binding_of(
+    alloc: Global,
+    name: Ident,
+    ty: Option<TypeExpr>,
+    value: Box<Expr>,
+) -> Result<Box<Binding>, OutOfMemory>
+    ensures name { IfOk result (λ b. name_of_binding b.value ≡ name) }
+    ensures written { IfOk result (λ b. type_of_binding b.value ≡ written_of ty) }
+    ensures value { IfOk result (λ b. value_of_binding b.value ≡ expr_of value.value) }
 {
-    Binding {
-        name: Ident::Fresh(name),
-        ty: Some(ty),
-        value,
-    }
+    let value = Box::into_inner(value);
+    boxed(alloc, Binding { name, ty, value })
+}
+
+/// A name for a function, and its type where one is written.
+pub fn member_of(
+    alloc: Global,
+    name: Ident,
+    ty: Option<TypeExpr>,
+    fun: Box<LambdaExpr>,
+) -> Result<Box<Member>, OutOfMemory>
+    ensures name { IfOk result (λ m. name_of_member m.value ≡ name) }
+    ensures written { IfOk result (λ m. type_of_member m.value ≡ written_of ty) }
+    ensures fun { IfOk result (λ m. fun_of_member m.value ≡ lambda_of fun.value) }
+{
+    let fun = Box::into_inner(fun);
+    boxed(alloc, Member { name, ty, fun })
+}
+
+// A typed binding of a fresh name.
+fn typed_binding(
+    alloc: Global,
+    name: u32,
+    ty: TypeExpr,
+    value: Box<Expr>,
+) -> Result<Box<Binding>, OutOfMemory>
+    ensures name { IfOk result (λ b. name_of_binding b.value ≡ Fresh name) }
+    ensures written { IfOk result (λ b. type_of_binding b.value ≡ Some (type_of ty)) }
+    ensures value { IfOk result (λ b. value_of_binding b.value ≡ expr_of value.value) }
+{
+    binding_of(alloc, Ident::Fresh(name), Some(ty), value)
 }
 
 /// A binding in front of others.
-pub fn bound_first(alloc: Global, first: Binding, rest: Bindings) -> Result<Bindings, OutOfMemory>
-    ensures { IfOk result (λ list. lets_of list ≡ LetThen (name_of_binding first) (type_of_binding first)
-        (value_of_binding first) (lets_of rest)) }
+pub fn bound_first(
+    alloc: Global,
+    first: Box<Binding>,
+    rest: Bindings,
+) -> Result<Bindings, OutOfMemory>
+    ensures { IfOk result (λ list. lets_of list ≡ LetThen (name_of_binding first.value) (type_of_binding first.value)
+        (value_of_binding first.value) (lets_of rest)) }
 {
-    let (first, rest) = both_boxed(alloc, first, rest)?;
+    let rest = boxed(alloc, rest)?;
     Ok(Bindings::Cons(first, rest))
 }
 
 /// A member in front of others.
-pub fn member_first(alloc: Global, first: Member, rest: Members) -> Result<Members, OutOfMemory>
-    ensures { IfOk result (λ list. letrecs_of list ≡ LetrecThen (name_of_member first) (type_of_member first)
-        (fun_of_member first) (letrecs_of rest)) }
+pub fn member_first(
+    alloc: Global,
+    first: Box<Member>,
+    rest: Members,
+) -> Result<Members, OutOfMemory>
+    ensures { IfOk result (λ list. letrecs_of list ≡ LetrecThen (name_of_member first.value)
+        (type_of_member first.value) (fun_of_member first.value) (letrecs_of rest)) }
 {
-    let (first, rest) = both_boxed(alloc, first, rest)?;
+    let rest = boxed(alloc, rest)?;
     Ok(Members::Cons(first, rest))
 }
 
@@ -314,11 +487,11 @@ fn loop_body(
     pos: Pos,
     bound: u32,
     counter: &Name,
-    turn: Expr,
-    done: Expr,
+    turn: Box<Expr>,
+    done: Box<Expr>,
 ) -> Result<ExprList, OutOfMemory>
     ensures { IfOk result (λ body. exprs_of body ≡ one_expr (ExprAt pos (IfNode (goes_on pos (Source counter.now)
-        (Fresh bound)) (expr_of turn) (expr_of done)))) }
+        (Fresh bound)) (expr_of turn.value) (expr_of done.value)))) }
 {
     let ((turn, done), test) = beside((turn, done), goes_on(alloc, pos, counter, bound))?;
     let body = if_at(alloc, pos, test, turn, done)?;
@@ -326,8 +499,13 @@ fn loop_body(
 }
 
 // The call for the next count.
-fn next_call(alloc: Global, pos: Pos, function: u32, counter: &Name) -> Result<Expr, OutOfMemory>
-    ensures { IfOk result (λ e. expr_of e ≡ ExprAt pos (CallNode (name_at pos (Fresh function)) (one_expr
+fn next_call(
+    alloc: Global,
+    pos: Pos,
+    function: u32,
+    counter: &Name,
+) -> Result<Box<Expr>, OutOfMemory>
+    ensures { IfOk result (λ e. expr_of e.value ≡ ExprAt pos (CallNode (name_at pos (Fresh function)) (one_expr
         (next_count pos (Source counter.now))))) }
 {
     let next = next_count(alloc, pos, counter)?;
@@ -341,18 +519,15 @@ fn counting_turn(
     pos: Pos,
     function: u32,
     counter: &Name,
-    body: Expr,
-) -> Result<Expr, OutOfMemory>
-    ensures { IfOk result (λ e. expr_of e ≡ ExprAt pos (BeginNode (two_exprs (expr_of body) (ExprAt pos (CallNode
-        (name_at pos (Fresh function)) (one_expr (next_count pos (Source counter.now)))))))) }
+    body: Box<Expr>,
+) -> Result<Box<Expr>, OutOfMemory>
+    ensures { IfOk result (λ e. expr_of e.value ≡ ExprAt pos (BeginNode (two_exprs (expr_of body.value) (ExprAt pos
+        (CallNode (name_at pos (Fresh function)) (one_expr (next_count pos (Source counter.now)))))))) }
 {
     let call = next_call(alloc, pos, function, counter);
     let (body, call) = beside(body, call)?;
     let turn = two(alloc, body, call)?;
-    Ok(Expr {
-        pos,
-        node: ExprNode::Begin(turn),
-    })
+    sequence_at(alloc, pos, turn)
 }
 
 // The function of a loop that only counts.
@@ -361,23 +536,16 @@ fn counting(
     pos: Pos,
     names: LoopNames,
     counter: &Name,
-    body: Expr,
-) -> Result<LambdaExpr, OutOfMemory>
-    ensures { IfOk result (λ l. lambda_of l ≡ counting pos names (Source counter.now) (expr_of body)) }
+    body: Box<Expr>,
+) -> Result<Box<LambdaExpr>, OutOfMemory>
+    ensures { IfOk result (λ l. lambda_of l.value ≡ counting pos names (Source counter.now) (expr_of body.value)) }
 {
-    let turn = counting_turn(alloc, pos, names.function, counter, body)?;
-    let done = Expr {
-        pos,
-        node: ExprNode::Unit,
-    };
+    let turn = counting_turn(alloc, pos, names.function, counter, body);
+    let (turn, done) = both(turn, unit_at(alloc, pos))?;
     let body = loop_body(alloc, pos, names.bound, counter, turn, done);
     let (body, params) = both(body, counter_params(alloc, pos, counter))?;
-    Ok(LambdaExpr {
-        pos,
-        params,
-        result: Some(base_at(pos, Row::Unit)),
-        body,
-    })
+    let result = Some(base_at(pos, Row::Unit));
+    lambda_at(alloc, pos, params, result, body)
 }
 
 // An accumulator: its name, its type and its first value.
@@ -385,18 +553,19 @@ fn counting(
 struct Sum {
     name: Name,
     ty: TypeExpr,
-    value: Expr,
+    value: Box<Expr>,
 }
 
 // The accumulator that is bound so; its type is Dyn where none is written.
-fn sum_of(alloc: Global, pos: Pos, start: Binding) -> Result<Sum, OutOfMemory>
-    ensures name { IfOk result (λ sum. sum.name ≡ source_of (name_of_binding start)) }
-    ensures written { IfOk result (λ sum. type_of sum.ty ≡ type_or_dyn pos (type_of_binding start)) }
-    ensures value { IfOk result (λ sum. expr_of sum.value ≡ value_of_binding start) }
+fn sum_of(alloc: Global, pos: Pos, start: Box<Binding>) -> Result<Sum, OutOfMemory>
+    ensures name { IfOk result (λ sum. sum.name ≡ source_of (name_of_binding start.value)) }
+    ensures written { IfOk result (λ sum. type_of sum.ty ≡ type_or_dyn pos (type_of_binding start.value)) }
+    ensures value { IfOk result (λ sum. expr_of sum.value.value ≡ value_of_binding start.value) }
 {
     let name = bytes_of(alloc, &start.name);
     let (start, name) = beside(start, name)?;
-    let (_, ty, value) = start.parts();
+    let (_, ty, value) = Box::into_inner(start).parts();
+    let value = boxed(alloc, value)?;
     Ok(Sum {
         name,
         ty: type_or_dyn(pos, ty),
@@ -434,10 +603,10 @@ fn gathering_turn(
     pos: Pos,
     function: u32,
     counter: &Name,
-    body: Expr,
-) -> Result<Expr, OutOfMemory>
-    ensures { IfOk result (λ e. expr_of e ≡ ExprAt pos (CallNode (name_at pos (Fresh function)) (two_exprs
-        (next_count pos (Source counter.now)) (expr_of body)))) }
+    body: Box<Expr>,
+) -> Result<Box<Expr>, OutOfMemory>
+    ensures { IfOk result (λ e. expr_of e.value ≡ ExprAt pos (CallNode (name_at pos (Fresh function)) (two_exprs
+        (next_count pos (Source counter.now)) (expr_of body.value)))) }
 {
     let (body, next) = beside(body, next_count(alloc, pos, counter))?;
     let next = two(alloc, next, body)?;
@@ -452,10 +621,10 @@ fn gathering(
     counter: &Name,
     sum: &Name,
     ty: &TypeExpr,
-    body: Expr,
-) -> Result<LambdaExpr, OutOfMemory>
-    ensures { IfOk result (λ l. lambda_of l ≡ gathering pos names (Source counter.now) (Source sum.now)
-        (type_of ty.now) (expr_of body)) }
+    body: Box<Expr>,
+) -> Result<Box<LambdaExpr>, OutOfMemory>
+    ensures { IfOk result (λ l. lambda_of l.value ≡ gathering pos names (Source counter.now) (Source sum.now)
+        (type_of ty.now) (expr_of body.value)) }
 {
     let turn = gathering_turn(alloc, pos, names.function, counter, body);
     let (turn, done) = both(turn, source_at(alloc, pos, sum))?;
@@ -463,12 +632,7 @@ fn gathering(
     let params = gathering_params(alloc, pos, counter, sum, ty);
     let types = both(params, ty.duplicate(alloc));
     let (body, (params, result)) = both(body, types)?;
-    Ok(LambdaExpr {
-        pos,
-        params,
-        result: Some(result),
-        body,
-    })
+    lambda_at(alloc, pos, params, Some(result), body)
 }
 
 // The first call of a loop's function.
@@ -477,11 +641,12 @@ fn loop_call(
     pos: Pos,
     names: LoopNames,
     arguments: ExprList,
-) -> Result<Expr, OutOfMemory>
-    ensures { IfOk result (λ e. expr_of e ≡ ExprAt pos (CallNode (name_at pos (Fresh names.function)) (ExprThen
+) -> Result<Box<Expr>, OutOfMemory>
+    ensures { IfOk result (λ e. expr_of e.value ≡ ExprAt pos (CallNode (name_at pos (Fresh names.function)) (ExprThen
         (name_at pos (Fresh names.start)) (exprs_of arguments)))) }
 {
-    let arguments = cons(alloc, fresh_at(pos, names.start), arguments)?;
+    let (arguments, start) = beside(arguments, fresh_at(alloc, pos, names.start))?;
+    let arguments = cons(alloc, start, arguments)?;
     call_at(alloc, pos, names.function, arguments)
 }
 
@@ -490,23 +655,16 @@ fn with_function(
     alloc: Global,
     pos: Pos,
     name: u32,
-    lambda: LambdaExpr,
-    body: Expr,
-) -> Result<Expr, OutOfMemory>
-    ensures { IfOk result (λ e. expr_of e ≡ ExprAt pos (LetrecNode (LetrecThen (Fresh name) None (lambda_of lambda)
-        NoLetrecs) (one_expr (expr_of body)))) }
+    lambda: Box<LambdaExpr>,
+    body: Box<Expr>,
+) -> Result<Box<Expr>, OutOfMemory>
+    ensures { IfOk result (λ e. expr_of e.value ≡ ExprAt pos (LetrecNode (LetrecThen (Fresh name) None
+        (lambda_of lambda.value) NoLetrecs) (one_expr (expr_of body.value)))) }
 {
-    let member = Member {
-        name: Ident::Fresh(name),
-        ty: None,
-        fun: lambda,
-    };
+    let (body, member) = beside(body, member_of(alloc, Ident::Fresh(name), None, lambda))?;
     let members = member_first(alloc, member, Members::Nil);
     let (members, body) = both(members, one(alloc, body))?;
-    Ok(Expr {
-        pos,
-        node: ExprNode::Letrec(members, body),
-    })
+    letrec_at(alloc, pos, members, body)
 }
 
 // The bindings of a loop: its first count, its bound and others.
@@ -514,16 +672,18 @@ fn loop_bindings(
     alloc: Global,
     pos: Pos,
     names: LoopNames,
-    bounds: (Expr, Expr),
+    bounds: (Box<Expr>, Box<Expr>),
     others: Bindings,
 ) -> Result<Bindings, OutOfMemory>
-    ensures { IfOk result (λ list. lets_of list ≡ LetThen (Fresh names.start) (Some (int_at pos)) (expr_of bounds.0)
-        (LetThen (Fresh names.bound) (Some (int_at pos)) (expr_of bounds.1) (lets_of others))) }
+    ensures { IfOk result (λ list. lets_of list ≡ LetThen (Fresh names.start) (Some (int_at pos))
+        (expr_of bounds.0.value) (LetThen (Fresh names.bound) (Some (int_at pos))
+        (expr_of bounds.1.value) (lets_of others))) }
 {
     let (first, bound) = bounds;
-    let bound = typed_binding(names.bound, int_at(pos), bound);
-    let (first, bindings) = beside(first, bound_first(alloc, bound, others))?;
-    let start = typed_binding(names.start, int_at(pos), first);
+    let bound = typed_binding(alloc, names.bound, int_at(pos), bound);
+    let start = typed_binding(alloc, names.start, int_at(pos), first);
+    let (others, (start, bound)) = beside(others, both(start, bound))?;
+    let (start, bindings) = beside(start, bound_first(alloc, bound, others))?;
     bound_first(alloc, start, bindings)
 }
 
@@ -532,11 +692,11 @@ fn loop_start(
     alloc: Global,
     pos: Pos,
     names: LoopNames,
-    lambda: LambdaExpr,
+    lambda: Box<LambdaExpr>,
     arguments: ExprList,
 ) -> Result<ExprList, OutOfMemory>
     ensures { IfOk result (λ list. exprs_of list ≡ one_expr (ExprAt pos (LetrecNode (LetrecThen (Fresh names.function)
-        None (lambda_of lambda) NoLetrecs) (one_expr (ExprAt pos (CallNode (name_at pos (Fresh names.function))
+        None (lambda_of lambda.value) NoLetrecs) (one_expr (ExprAt pos (CallNode (name_at pos (Fresh names.function))
         (ExprThen (name_at pos (Fresh names.start)) (exprs_of arguments)))))))) }
 {
     let (lambda, call) = beside(lambda, loop_call(alloc, pos, names, arguments))?;
@@ -549,21 +709,18 @@ fn loop_of(
     alloc: Global,
     pos: Pos,
     names: LoopNames,
-    bounds: (Expr, Expr),
+    bounds: (Box<Expr>, Box<Expr>),
     others: Bindings,
-    lambda: LambdaExpr,
+    lambda: Box<LambdaExpr>,
     arguments: ExprList,
-) -> Result<Expr, OutOfMemory>
-    ensures { IfOk result (λ e. expr_of e ≡ loop_of pos names (expr_of bounds.0) (expr_of bounds.1)
-        (lets_of others) (lambda_of lambda) (exprs_of arguments)) }
+) -> Result<Box<Expr>, OutOfMemory>
+    ensures { IfOk result (λ e. expr_of e.value ≡ loop_of pos names (expr_of bounds.0.value) (expr_of bounds.1.value)
+        (lets_of others) (lambda_of lambda.value) (exprs_of arguments)) }
 {
     let bindings = loop_bindings(alloc, pos, names, bounds, others);
     let body = loop_start(alloc, pos, names, lambda, arguments);
     let (bindings, body) = both(bindings, body)?;
-    Ok(Expr {
-        pos,
-        node: ExprNode::Let(bindings, body),
-    })
+    let_at(alloc, pos, bindings, body)
 }
 
 /// A `repeat` without an accumulator.
@@ -572,10 +729,10 @@ pub fn counted_loop(
     pos: Pos,
     names: LoopNames,
     range: Range,
-    body: Expr,
-) -> Result<Expr, OutOfMemory>
-    ensures { IfOk result (λ e. expr_of e ≡ repeat_of pos names range.counter (expr_of range.first)
-        (expr_of range.bound) (expr_of body)) }
+    body: Box<Expr>,
+) -> Result<Box<Expr>, OutOfMemory>
+    ensures { IfOk result (λ e. expr_of e.value ≡ repeat_of pos names range.counter (expr_of range.first.value)
+        (expr_of range.bound.value) (expr_of body.value)) }
 {
     let lambda = counting(alloc, pos, names, &range.counter, body);
     let (range, lambda) = beside(range, lambda)?;
@@ -608,12 +765,15 @@ fn sum_start(
     sum: Sum,
 ) -> Result<(Bindings, ExprList), OutOfMemory>
     ensures bindings { IfOk result (λ two. lets_of two.0 ≡ LetThen (Fresh name) (Some (type_of sum.ty))
-        (expr_of sum.value) NoLets) }
+        (expr_of sum.value.value) NoLets) }
     ensures uses { IfOk result (λ two. exprs_of two.1 ≡ one_expr (name_at pos (Fresh name))) }
 {
-    let binding = typed_binding(name, sum.ty, sum.value);
-    let bindings = bound_first(alloc, binding, Bindings::Nil);
-    both(bindings, one(alloc, fresh_at(pos, name)))
+    let binding = typed_binding(alloc, name, sum.ty, sum.value);
+    let (binding, value) = both(binding, fresh_at(alloc, pos, name))?;
+    both(
+        bound_first(alloc, binding, Bindings::Nil),
+        one(alloc, value),
+    )
 }
 
 /// A `repeat` with an accumulator, of which this is the fresh name.
@@ -623,12 +783,12 @@ pub fn gathering_loop(
     names: LoopNames,
     value: u32,
     range: Range,
-    start: Binding,
-    body: Expr,
-) -> Result<Expr, OutOfMemory>
-    ensures { IfOk result (λ e. expr_of e ≡ repeat_into_of pos names (Fresh value) range.counter
-        (expr_of range.first) (expr_of range.bound) (source_of (name_of_binding start))
-        (type_or_dyn pos (type_of_binding start)) (value_of_binding start) (expr_of body)) }
+    start: Box<Binding>,
+    body: Box<Expr>,
+) -> Result<Box<Expr>, OutOfMemory>
+    ensures { IfOk result (λ e. expr_of e.value ≡ repeat_into_of pos names (Fresh value) range.counter
+        (expr_of range.first.value) (expr_of range.bound.value) (source_of (name_of_binding start.value))
+        (type_or_dyn pos (type_of_binding start.value)) (value_of_binding start.value) (expr_of body.value)) }
 {
     let sum = sum_of(alloc, pos, start)?;
     let lambda = gathering(alloc, pos, names, &range.counter, &sum.name, &sum.ty, body);

@@ -11,34 +11,34 @@ ghost use Rattle.surface_syntax.specs.Pass.{parse_member, parse_lambda_form, par
 ghost use Rattle.surface_trees.specs.Views.{params_of, source_of, expr_of, exprs_of, lets_of, letrecs_of};
 ghost use Rattle.surface_trees.specs.Views.{lambda_of};
 ghost use Rattle.surface_syntax.specs.Parts.{parse_call, parse_behind, part_number, range_of, name_of_binding};
-ghost use Rattle.surface_syntax.specs.Parts.{bound_of, name_of_member, member_of};
+ghost use Rattle.surface_syntax.specs.Parts.{bound_of, name_of_member, member_of, in_box};
 ghost use Rattle.surface_syntax.specs.Forms.{let_of, letrec_of, if_of, ascribed, ascription_of, projected};
 ghost use Rattle.surface_syntax.specs.Forms.{projection_of, applied_of, parse_operands, repeat_form_of, headed_of};
 ghost use Rattle.surface_syntax.specs.Forms.{lambda_from};
 ghost use Rattle.surface_syntax.specs.Claims.{Answers, Parses};
 
 use crate::collect::{binding_list, expr_list, member_list, push};
-use crate::derived::{Range, cons, if_at, source};
+use crate::derived::{
+    Range, ascription_at, binding_of, called, cons, function_at, if_at, integer_at, lambda_at,
+    let_at, letrec_at, member_of, part_at, source_at, truth_at, unit_at,
+};
 use crate::elements::{
     behind_lambda, lambda_parts, names_and_body, range_parts, repeat_parts, three_of, two_of,
     typed_body,
 };
 use crate::lists::{bad_form, refused, word_at};
-use crate::operands::{Head, applied_to, called, room};
+use crate::operands::{Head, applied_to, room};
 use crate::params::{bound_to, only_name, param_list};
 use crate::repeats::{counted_repeat, gathered_repeat};
 use crate::scopes::Scope;
 use crate::type_forms::type_expr;
 use crate::words::{Mark, Word, mark_of};
 use grift_base::lists::{Name, OutOfMemory};
-use grift_base::made::boxed;
 use grift_base::places::Pos;
 use grift_base::refusals::{FrontFault, RefusalKind};
 use sexpr_reader::sexps::{Sexp, SexpList, SexpNode};
 use std::alloc::Global;
-use surface_trees::exprs::{
-    Binding, Bindings, Expr, ExprList, ExprNode, LambdaExpr, Member, Members,
-};
+use surface_trees::exprs::{Binding, Bindings, Expr, ExprList, LambdaExpr, Member, Members};
 use surface_trees::names::Ident;
 use surface_trees::types::Params;
 
@@ -67,74 +67,71 @@ fn part_number(sexp: &Sexp) -> Result<i64, FrontFault>
 
 // The part of a tuple with this number.
 #[tactic(auto, using(crate::proofs::Steps::walk_steps), unfolding(crate::specs::Walking::followed_by))]
-fn projected(alloc: Global, pos: Pos, tuple: Expr, number: &Sexp) -> Result<Expr, FrontFault>
-    ensures { Answers result expr_of (projected pos (expr_of tuple) (marked (datum_of number.now))) }
+fn projected(
+    alloc: Global,
+    pos: Pos,
+    tuple: Box<Expr>,
+    number: &Sexp,
+) -> Result<Box<Expr>, FrontFault>
+    ensures { Answers result (in_box expr_of) (projected pos (expr_of tuple.value) (marked (datum_of number.now))) }
 {
     let part = part_number(number)?;
-    let tuple = boxed(alloc, tuple)?;
-    Ok(Expr {
-        pos,
-        node: ExprNode::Proj(tuple, part, number.pos),
-    })
+    Ok(part_at(alloc, pos, tuple, part, number.pos)?)
 }
 
 // An expression at the type that this writes.
 #[tactic(auto, using(crate::proofs::Steps::walk_steps), unfolding(crate::specs::Walking::followed_by))]
-fn ascribed(alloc: Global, pos: Pos, inner: Expr, written: &Sexp) -> Result<Expr, FrontFault>
-    ensures { Answers result expr_of (ascribed pos (expr_of inner) (marked (datum_of written.now))) }
+fn ascribed(
+    alloc: Global,
+    pos: Pos,
+    inner: Box<Expr>,
+    written: &Sexp,
+) -> Result<Box<Expr>, FrontFault>
+    ensures { Answers result (in_box expr_of) (ascribed pos (expr_of inner.value) (marked (datum_of written.now))) }
 {
     let ty = type_expr(alloc, written)?;
-    let inner = boxed(alloc, inner)?;
-    Ok(Expr {
-        pos,
-        node: ExprNode::Ascribe(inner, ty),
-    })
+    Ok(ascription_at(alloc, pos, inner, ty)?)
 }
 
 // The use of a name.
-fn symbol(alloc: Global, pos: Pos, name: &Name) -> Result<Expr, FrontFault>
-    ensures { (names : _) → Parses result expr_of names (parse (marked_symbol pos name.now (mark_of name.now)) names) }
+fn symbol(alloc: Global, pos: Pos, name: &Name) -> Result<Box<Expr>, FrontFault>
+    ensures { (names : _) → Parses result (in_box expr_of) names (parse (marked_symbol pos name.now
+        (mark_of name.now)) names) }
 {
     if let Mark::Reserved(_) = mark_of(name.as_slice()) {
         return bad_form(pos);
     }
-    let name = source(alloc, name)?;
-    Ok(Expr {
-        pos,
-        node: ExprNode::Name(name),
-    })
+    Ok(source_at(alloc, pos, name)?)
 }
 
 /// The expression that an s-expression is.
 #[cycle(read_form)]
-pub fn expr(alloc: Global, names: &mut u32, sexp: &Sexp) -> Result<Expr, FrontFault>
-    ensures { Parses result expr_of names.new (parse (marked (datum_of sexp.now)) names.old) }
+pub fn expr(alloc: Global, names: &mut u32, sexp: &Sexp) -> Result<Box<Expr>, FrontFault>
+    ensures { Parses result (in_box expr_of) names.new (parse (marked (datum_of sexp.now)) names.old) }
 {
     let pos = sexp.pos;
-    match &sexp.node {
-        SexpNode::Int(number) => Ok(Expr {
-            pos,
-            node: ExprNode::Int(*number),
-        }),
-        SexpNode::Bool(truth) => Ok(Expr {
-            pos,
-            node: ExprNode::Bool(*truth),
-        }),
-        SexpNode::Symbol(name) => symbol(alloc, pos, name),
-        SexpNode::List(elements) => list(alloc, names, pos, elements),
-    }
+    let literal = match &sexp.node {
+        SexpNode::Int(number) => integer_at(alloc, pos, *number),
+        SexpNode::Bool(truth) => truth_at(alloc, pos, *truth),
+        SexpNode::Symbol(name) => return symbol(alloc, pos, name),
+        SexpNode::List(elements) => return list(alloc, names, pos, elements),
+    };
+    Ok(literal?)
 }
 
 // The expression that a list with these elements is.
 #[cycle(read_form)]
-fn list(alloc: Global, names: &mut u32, pos: Pos, elements: &SexpList) -> Result<Expr, FrontFault>
-    ensures { Parses result expr_of names.new (parse_list pos (all_marked (datums_of elements.now)) names.old) }
+fn list(
+    alloc: Global,
+    names: &mut u32,
+    pos: Pos,
+    elements: &SexpList,
+) -> Result<Box<Expr>, FrontFault>
+    ensures { Parses result (in_box expr_of) names.new (parse_list pos (all_marked (datums_of elements.now))
+        names.old) }
 {
     let SexpList::Cons(head, rest) = elements else {
-        return Ok(Expr {
-            pos,
-            node: ExprNode::Unit,
-        });
+        return Ok(unit_at(alloc, pos)?);
     };
     let Some(word) = word_at(head) else {
         return call(alloc, names, pos, elements);
@@ -153,16 +150,14 @@ fn headed(
     pos: Pos,
     word: Word,
     rest: &SexpList,
-) -> Result<Expr, FrontFault>
-    ensures { Parses result expr_of names.new (headed_of word pos (all_marked (datums_of rest.now)) names.old) }
+) -> Result<Box<Expr>, FrontFault>
+    ensures { Parses result (in_box expr_of) names.new (headed_of word pos (all_marked (datums_of rest.now))
+        names.old) }
 {
     match word {
         Word::Lambda => {
             let lambda = lambda(alloc, names, pos, rest)?;
-            Ok(Expr {
-                pos,
-                node: ExprNode::Lambda(lambda),
-            })
+            Ok(function_at(alloc, pos, lambda)?)
         }
         Word::Let => let_form(alloc, names, pos, rest),
         Word::Letrec => letrec_form(alloc, names, pos, rest),
@@ -180,8 +175,14 @@ fn headed(
 }
 
 #[cycle(read_form)]
-fn call(alloc: Global, names: &mut u32, pos: Pos, elements: &SexpList) -> Result<Expr, FrontFault>
-    ensures { Parses result expr_of names.new (parse_call pos (all_marked (datums_of elements.now)) names.old) }
+fn call(
+    alloc: Global,
+    names: &mut u32,
+    pos: Pos,
+    elements: &SexpList,
+) -> Result<Box<Expr>, FrontFault>
+    ensures { Parses result (in_box expr_of) names.new (parse_call pos (all_marked (datums_of elements.now))
+        names.old) }
 {
     let SexpList::Cons(function, arguments) = elements else {
         return bad_form(pos);
@@ -192,16 +193,18 @@ fn call(alloc: Global, names: &mut u32, pos: Pos, elements: &SexpList) -> Result
 }
 
 #[cycle(read_form)]
-fn let_form(alloc: Global, names: &mut u32, pos: Pos, rest: &SexpList) -> Result<Expr, FrontFault>
-    ensures { Parses result expr_of names.new (let_of pos (all_marked (datums_of rest.now)) names.old) }
+fn let_form(
+    alloc: Global,
+    names: &mut u32,
+    pos: Pos,
+    rest: &SexpList,
+) -> Result<Box<Expr>, FrontFault>
+    ensures { Parses result (in_box expr_of) names.new (let_of pos (all_marked (datums_of rest.now)) names.old) }
 {
     let (bindings, body) = names_and_body(pos, rest)?;
     let bindings = lets(alloc, names, bindings)?;
     let body = each(alloc, names, body)?;
-    Ok(Expr {
-        pos,
-        node: ExprNode::Let(bindings, body),
-    })
+    Ok(let_at(alloc, pos, bindings, body)?)
 }
 
 #[cycle(read_form)]
@@ -210,21 +213,23 @@ fn letrec_form(
     names: &mut u32,
     pos: Pos,
     rest: &SexpList,
-) -> Result<Expr, FrontFault>
-    ensures { Parses result expr_of names.new (letrec_of pos (all_marked (datums_of rest.now)) names.old) }
+) -> Result<Box<Expr>, FrontFault>
+    ensures { Parses result (in_box expr_of) names.new (letrec_of pos (all_marked (datums_of rest.now)) names.old) }
 {
     let (members, body) = names_and_body(pos, rest)?;
     let members = letrecs(alloc, names, members)?;
     let body = each(alloc, names, body)?;
-    Ok(Expr {
-        pos,
-        node: ExprNode::Letrec(members, body),
-    })
+    Ok(letrec_at(alloc, pos, members, body)?)
 }
 
 #[cycle(read_form)]
-fn if_form(alloc: Global, names: &mut u32, pos: Pos, rest: &SexpList) -> Result<Expr, FrontFault>
-    ensures { Parses result expr_of names.new (if_of pos (all_marked (datums_of rest.now)) names.old) }
+fn if_form(
+    alloc: Global,
+    names: &mut u32,
+    pos: Pos,
+    rest: &SexpList,
+) -> Result<Box<Expr>, FrontFault>
+    ensures { Parses result (in_box expr_of) names.new (if_of pos (all_marked (datums_of rest.now)) names.old) }
 {
     let parts = three_of(pos, rest)?;
     let condition = expr(alloc, names, parts.first)?;
@@ -234,8 +239,13 @@ fn if_form(alloc: Global, names: &mut u32, pos: Pos, rest: &SexpList) -> Result<
 }
 
 #[cycle(read_form)]
-fn ascription(alloc: Global, names: &mut u32, pos: Pos, rest: &SexpList) -> Result<Expr, FrontFault>
-    ensures { Parses result expr_of names.new (ascription_of pos (all_marked (datums_of rest.now)) names.old) }
+fn ascription(
+    alloc: Global,
+    names: &mut u32,
+    pos: Pos,
+    rest: &SexpList,
+) -> Result<Box<Expr>, FrontFault>
+    ensures { Parses result (in_box expr_of) names.new (ascription_of pos (all_marked (datums_of rest.now)) names.old) }
 {
     let (inner, written) = two_of(pos, rest)?;
     let inner = expr(alloc, names, inner)?;
@@ -243,8 +253,13 @@ fn ascription(alloc: Global, names: &mut u32, pos: Pos, rest: &SexpList) -> Resu
 }
 
 #[cycle(read_form)]
-fn projection(alloc: Global, names: &mut u32, pos: Pos, rest: &SexpList) -> Result<Expr, FrontFault>
-    ensures { Parses result expr_of names.new (projection_of pos (all_marked (datums_of rest.now)) names.old) }
+fn projection(
+    alloc: Global,
+    names: &mut u32,
+    pos: Pos,
+    rest: &SexpList,
+) -> Result<Box<Expr>, FrontFault>
+    ensures { Parses result (in_box expr_of) names.new (projection_of pos (all_marked (datums_of rest.now)) names.old) }
 {
     let (tuple, number) = two_of(pos, rest)?;
     let tuple = expr(alloc, names, tuple)?;
@@ -259,8 +274,9 @@ fn applied(
     pos: Pos,
     head: Head,
     rest: &SexpList,
-) -> Result<Expr, FrontFault>
-    ensures { Parses result expr_of names.new (applied_of head pos (all_marked (datums_of rest.now)) names.old) }
+) -> Result<Box<Expr>, FrontFault>
+    ensures { Parses result (in_box expr_of) names.new (applied_of head pos (all_marked (datums_of rest.now))
+        names.old) }
 {
     let room = room(head, pos, rest)?;
     let operands = operands(alloc, names, room, rest)?;
@@ -284,8 +300,14 @@ fn operands(
 }
 
 #[cycle(read_form)]
-fn repeat(alloc: Global, names: &mut u32, pos: Pos, rest: &SexpList) -> Result<Expr, FrontFault>
-    ensures { Parses result expr_of names.new (repeat_form_of pos (all_marked (datums_of rest.now)) names.old) }
+fn repeat(
+    alloc: Global,
+    names: &mut u32,
+    pos: Pos,
+    rest: &SexpList,
+) -> Result<Box<Expr>, FrontFault>
+    ensures { Parses result (in_box expr_of) names.new (repeat_form_of pos (all_marked (datums_of rest.now))
+        names.old) }
 {
     let parts = repeat_parts(pos, rest)?;
     let range = range(alloc, names, parts.head)?;
@@ -342,8 +364,9 @@ fn lambda(
     names: &mut u32,
     pos: Pos,
     elements: &SexpList,
-) -> Result<LambdaExpr, FrontFault>
-    ensures { Parses result lambda_of names.new (lambda_from pos (all_marked (datums_of elements.now)) names.old) }
+) -> Result<Box<LambdaExpr>, FrontFault>
+    ensures { Parses result (in_box lambda_of) names.new (lambda_from pos (all_marked (datums_of elements.now))
+        names.old) }
 {
     let (params, rest) = lambda_parts(pos, elements)?;
     let params = param_list(alloc, params)?;
@@ -358,28 +381,18 @@ pub fn lambda_with(
     pos: Pos,
     params: Params,
     rest: &SexpList,
-) -> Result<LambdaExpr, FrontFault>
-    ensures { Parses result lambda_of names.new (parse_behind pos (params_of params) (all_marked (datums_of
+) -> Result<Box<LambdaExpr>, FrontFault>
+    ensures { Parses result (in_box lambda_of) names.new (parse_behind pos (params_of params) (all_marked (datums_of
         rest.now)) names.old) }
 {
     let typed = typed_body(pos, rest)?;
     let Some(typed) = typed else {
         let body = each(alloc, names, rest)?;
-        return Ok(LambdaExpr {
-            pos,
-            params,
-            result: None,
-            body,
-        });
+        return Ok(lambda_at(alloc, pos, params, None, body)?);
     };
     let result_type = type_expr(alloc, typed.written)?;
     let body = each(alloc, names, typed.body)?;
-    Ok(LambdaExpr {
-        pos,
-        params,
-        result: Some(result_type),
-        body,
-    })
+    Ok(lambda_at(alloc, pos, params, Some(result_type), body)?)
 }
 
 // The name of a value, in a scope.
@@ -389,19 +402,15 @@ fn binding(
     names: &mut u32,
     scope: &mut Scope,
     sexp: &Sexp,
-) -> Result<Binding, FrontFault>
-    ensures binding { Parses result bound_of names.new (parse_binding scope.old (marked (datum_of sexp.now))
+) -> Result<Box<Binding>, FrontFault>
+    ensures binding { Parses result (in_box bound_of) names.new (parse_binding scope.old (marked (datum_of sexp.now))
         names.old) }
-    ensures bound { IfOk result (λ b. scope.new ≡ scope.old ++ source_of (name_of_binding b) ∷ []) }
-    ensures source { IfOk result (λ b. name_of_binding b ≡ Source (source_of (name_of_binding b))) }
+    ensures bound { IfOk result (λ b. scope.new ≡ scope.old ++ source_of (name_of_binding b.value) ∷ []) }
+    ensures source { IfOk result (λ b. name_of_binding b.value ≡ Source (source_of (name_of_binding b.value))) }
 {
     let (bound, value) = bound_to(alloc, scope, sexp)?;
     let value = expr(alloc, names, value)?;
-    Ok(Binding {
-        name: Ident::Source(bound.name),
-        ty: bound.ty,
-        value,
-    })
+    Ok(binding_of(alloc, Ident::Source(bound.name), bound.ty, value)?)
 }
 
 // The names of values that a scope of their own binds.
@@ -427,19 +436,15 @@ fn member(
     names: &mut u32,
     scope: &mut Scope,
     sexp: &Sexp,
-) -> Result<Member, FrontFault>
-    ensures member { Parses result member_of names.new (parse_member scope.old (marked (datum_of sexp.now))
+) -> Result<Box<Member>, FrontFault>
+    ensures member { Parses result (in_box member_of) names.new (parse_member scope.old (marked (datum_of sexp.now))
         names.old) }
-    ensures bound { IfOk result (λ m. scope.new ≡ scope.old ++ source_of (name_of_member m) ∷ []) }
-    ensures source { IfOk result (λ m. name_of_member m ≡ Source (source_of (name_of_member m))) }
+    ensures bound { IfOk result (λ m. scope.new ≡ scope.old ++ source_of (name_of_member m.value) ∷ []) }
+    ensures source { IfOk result (λ m. name_of_member m.value ≡ Source (source_of (name_of_member m.value))) }
 {
     let (bound, value) = bound_to(alloc, scope, sexp)?;
     let fun = function(alloc, names, value)?;
-    Ok(Member {
-        name: Ident::Source(bound.name),
-        ty: bound.ty,
-        fun,
-    })
+    Ok(member_of(alloc, Ident::Source(bound.name), bound.ty, fun)?)
 }
 
 // The names of functions that a scope of their own binds.
@@ -460,8 +465,8 @@ fn letrecs(alloc: Global, names: &mut u32, list: &SexpList) -> Result<Members, F
 
 /// The function that a `lambda` form is.
 #[cycle(read_form)]
-pub fn function(alloc: Global, names: &mut u32, sexp: &Sexp) -> Result<LambdaExpr, FrontFault>
-    ensures { Parses result lambda_of names.new (parse_lambda_form (marked (datum_of sexp.now)) names.old) }
+pub fn function(alloc: Global, names: &mut u32, sexp: &Sexp) -> Result<Box<LambdaExpr>, FrontFault>
+    ensures { Parses result (in_box lambda_of) names.new (parse_lambda_form (marked (datum_of sexp.now)) names.old) }
 {
     let elements = behind_lambda(sexp)?;
     lambda(alloc, names, sexp.pos, elements)

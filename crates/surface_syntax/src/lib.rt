@@ -44,6 +44,6 @@ pub fn parse_program(alloc: Global, forms: &SexpList) -> Result<Program, FrontFa
     let mut names = 0;
     let parts = parts(alloc, &mut names, forms)?;
     let count = parts.len() as u32;
-    let body = whole(alloc, parts)?;
+    let body = Box::into_inner(whole(alloc, parts)?);
     Ok(Program { body, forms: count })
 }

@@ -4,22 +4,20 @@
 ghost use Rattle.std.specs.Prelude.{◌≡◌, IfOk};
 ghost use Rattle.sexpr_reader.specs.View.{datums_of};
 ghost use Rattle.surface_syntax.specs.Marked.{all_marked};
-ghost use Rattle.surface_trees.specs.Trees.{ExprAt, CallNode};
 ghost use Rattle.surface_syntax.specs.Forms.{room_of, applied_to};
 ghost use Rattle.surface_trees.specs.Views.{expr_of, exprs_of};
 ghost use Rattle.surface_syntax.specs.Claims.{Answers};
 
-use crate::derived::chain;
+use crate::derived::{chain, operator_at, sequence_at, tuple_at};
 use crate::lists::{bad_form, has_length, some};
 use crate::words::operand_count;
 use grift_base::lists::OutOfMemory;
-use grift_base::made::boxed;
 use grift_base::operators::PrimOp;
 use grift_base::places::Pos;
 use grift_base::refusals::FrontFault;
 use sexpr_reader::sexps::SexpList;
 use std::alloc::Global;
-use surface_trees::exprs::{Expr, ExprList, ExprNode};
+use surface_trees::exprs::{Expr, ExprList};
 
 /// The most parts of a tuple, and the most operands of `and` and `or`.
 const MOST_PARTS: u64 = 8;
@@ -68,31 +66,14 @@ pub fn applied_to(
     head: Head,
     pos: Pos,
     operands: ExprList,
-) -> Result<Expr, OutOfMemory>
-    ensures { IfOk result (λ e. expr_of e ≡ applied_to head pos (exprs_of operands)) }
+) -> Result<Box<Expr>, OutOfMemory>
+    ensures { IfOk result (λ e. expr_of e.value ≡ applied_to head pos (exprs_of operands)) }
 {
-    let node = match head {
-        Head::And => return chain(alloc, true, pos, operands),
-        Head::Or => return chain(alloc, false, pos, operands),
-        Head::Begin => ExprNode::Begin(operands),
-        Head::Tuple => ExprNode::Tuple(operands),
-        Head::Operator(operator) => ExprNode::Prim(operator, operands),
-    };
-    Ok(Expr { pos, node })
-}
-
-/// A call of what this expression is.
-pub fn called(
-    alloc: Global,
-    pos: Pos,
-    function: Expr,
-    arguments: ExprList,
-) -> Result<Expr, OutOfMemory>
-    ensures { IfOk result (λ e. expr_of e ≡ ExprAt pos (CallNode (expr_of function) (exprs_of arguments))) }
-{
-    let function = boxed(alloc, function)?;
-    Ok(Expr {
-        pos,
-        node: ExprNode::Call(function, arguments),
-    })
+    match head {
+        Head::And => chain(alloc, true, pos, operands),
+        Head::Or => chain(alloc, false, pos, operands),
+        Head::Begin => sequence_at(alloc, pos, operands),
+        Head::Tuple => tuple_at(alloc, pos, operands),
+        Head::Operator(operator) => operator_at(alloc, pos, operator, operands),
+    }
 }

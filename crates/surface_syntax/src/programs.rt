@@ -9,41 +9,49 @@ ghost use Rattle.surface_syntax.specs.Parts.{name_of_member, type_of_member, fun
 ghost use Rattle.surface_syntax.specs.Parts.{type_of_binding, value_of_binding};
 ghost use Rattle.surface_syntax.specs.TopParts.{part_of, rest_of};
 
-use crate::derived::{bound_first, member_first, one, two};
+use crate::derived::{
+    binding_of, bound_first, let_at, letrec_at, member_first, member_of, one, sequence_at, two,
+    unit_at,
+};
 use crate::tops::Part;
 use grift_base::lists::OutOfMemory;
 use grift_base::made::{beside, both};
 use grift_base::places::Pos;
 use std::alloc::Global;
-use surface_trees::exprs::{Binding, Bindings, Expr, ExprNode, Member, Members};
+use surface_trees::exprs::{Binding, Bindings, Expr, Member, Members};
 use surface_trees::names::Ident;
 
 /// The rest of a program.
 #[derive(Drop)]
 pub enum Rest {
     /// An expression.
-    Alone(Expr),
+    Alone(Box<Expr>),
     /// A run of functions from this place on, and what follows them.
-    Run(Pos, Members, Expr),
+    Run(Pos, Members, Box<Expr>),
 }
 
 // The expression that a rest is.
-fn closed(alloc: Global, rest: Rest) -> Result<Expr, OutOfMemory>
-    ensures { IfOk result (λ e. expr_of e ≡ closed (rest_of rest)) }
+fn closed(alloc: Global, rest: Rest) -> Result<Box<Expr>, OutOfMemory>
+    ensures { IfOk result (λ e. expr_of e.value ≡ closed (rest_of rest)) }
 {
     match rest {
         Rest::Alone(expr) => Ok(expr),
-        Rest::Run(pos, members, body) => Ok(Expr {
-            pos,
-            node: ExprNode::Letrec(members, one(alloc, body)?),
-        }),
+        Rest::Run(pos, members, body) => {
+            let (members, body) = beside(members, one(alloc, body))?;
+            letrec_at(alloc, pos, members, body)
+        }
     }
 }
 
 // A function defined before the rest.
-fn with_function(alloc: Global, pos: Pos, member: Member, rest: Rest) -> Result<Rest, OutOfMemory>
-    ensures { IfOk result (λ r. rest_of r ≡ with_function pos (name_of_member member) (type_of_member member)
-        (fun_of_member member) (rest_of rest)) }
+fn with_function(
+    alloc: Global,
+    pos: Pos,
+    member: Box<Member>,
+    rest: Rest,
+) -> Result<Rest, OutOfMemory>
+    ensures { IfOk result (λ r. rest_of r ≡ with_function pos (name_of_member member.value)
+        (type_of_member member.value) (fun_of_member member.value) (rest_of rest)) }
 {
     let (members, body) = match rest {
         Rest::Alone(body) => (Members::Nil, body),
@@ -55,29 +63,33 @@ fn with_function(alloc: Global, pos: Pos, member: Member, rest: Rest) -> Result<
 
 // An expression before the rest. Each form has a function of its own, since what a proof costs goes by the calls of a
 // function times its exits.
-fn with_expression(alloc: Global, pos: Pos, expr: Expr, rest: Rest) -> Result<Rest, OutOfMemory>
-    ensures { IfOk result (λ r. rest_of r ≡ before (ExprPart pos (expr_of expr)) (rest_of rest)) }
+fn with_expression(
+    alloc: Global,
+    pos: Pos,
+    expr: Box<Expr>,
+    rest: Rest,
+) -> Result<Rest, OutOfMemory>
+    ensures { IfOk result (λ r. rest_of r ≡ before (ExprPart pos (expr_of expr.value)) (rest_of rest)) }
 {
     let (expr, rest) = beside(expr, closed(alloc, rest))?;
     let both = two(alloc, expr, rest)?;
-    Ok(Rest::Alone(Expr {
-        pos,
-        node: ExprNode::Begin(both),
-    }))
+    Ok(Rest::Alone(sequence_at(alloc, pos, both)?))
 }
 
 // A value defined before the rest.
-fn with_value(alloc: Global, pos: Pos, binding: Binding, rest: Rest) -> Result<Rest, OutOfMemory>
-    ensures { IfOk result (λ r. rest_of r ≡ Alone (ExprAt pos (LetNode (LetThen (name_of_binding binding)
-        (type_of_binding binding) (value_of_binding binding) NoLets) (one_expr (closed (rest_of rest)))))) }
+fn with_value(
+    alloc: Global,
+    pos: Pos,
+    binding: Box<Binding>,
+    rest: Rest,
+) -> Result<Rest, OutOfMemory>
+    ensures { IfOk result (λ r. rest_of r ≡ Alone (ExprAt pos (LetNode (LetThen (name_of_binding binding.value)
+        (type_of_binding binding.value) (value_of_binding binding.value) NoLets) (one_expr (closed (rest_of rest)))))) }
 {
     let (binding, rest) = beside(binding, closed(alloc, rest))?;
     let bindings = bound_first(alloc, binding, Bindings::Nil);
     let (bindings, body) = both(bindings, one(alloc, rest))?;
-    Ok(Rest::Alone(Expr {
-        pos,
-        node: ExprNode::Let(bindings, body),
-    }))
+    Ok(Rest::Alone(let_at(alloc, pos, bindings, body)?))
 }
 
 // A form before the rest.
@@ -92,24 +104,23 @@ fn before(alloc: Global, part: Part, rest: Rest) -> Result<Rest, OutOfMemory>
             ty,
             value,
         } => {
-            let name = Ident::Source(name);
-            with_value(alloc, pos, Binding { name, ty, value }, rest)
+            let binding = binding_of(alloc, Ident::Source(name), ty, value);
+            let (rest, binding) = beside(rest, binding)?;
+            with_value(alloc, pos, binding, rest)
         }
         Part::Function { pos, name, ty, fun } => {
-            let name = Ident::Source(name);
-            with_function(alloc, pos, Member { name, ty, fun }, rest)
+            let member = member_of(alloc, Ident::Source(name), ty, fun);
+            let (rest, member) = beside(rest, member)?;
+            with_function(alloc, pos, member, rest)
         }
     }
 }
 
 // The value `()` at this place.
-fn unit_at(pos: Pos) -> Rest
-    ensures { rest_of result ≡ Alone (ExprAt pos UnitNode) }
+fn nothing_behind(alloc: Global, pos: Pos) -> Result<Rest, OutOfMemory>
+    ensures { IfOk result (λ r. rest_of r ≡ Alone (ExprAt pos UnitNode)) }
 {
-    Rest::Alone(Expr {
-        pos,
-        node: ExprNode::Unit,
-    })
+    Ok(Rest::Alone(unit_at(alloc, pos)?))
 }
 
 // The last form. Behind a definition comes `()`, at the place of the definition.
@@ -130,24 +141,23 @@ fn ending(alloc: Global, part: Part) -> Result<Rest, OutOfMemory>
                 ty,
                 value,
             };
-            before(alloc, definition, unit_at(pos))
+            let (definition, rest) = beside(definition, nothing_behind(alloc, pos))?;
+            before(alloc, definition, rest)
         }
         Part::Function { pos, name, ty, fun } => {
             let definition = Part::Function { pos, name, ty, fun };
-            before(alloc, definition, unit_at(pos))
+            let (definition, rest) = beside(definition, nothing_behind(alloc, pos))?;
+            before(alloc, definition, rest)
         }
     }
 }
 
 /// The expression of a program with these forms; one without a form is `()`.
-pub fn whole(alloc: Global, mut parts: Vec<Part>) -> Result<Expr, OutOfMemory>
-    ensures { IfOk result (λ e. expr_of e ≡ whole (map part_of parts.items)) }
+pub fn whole(alloc: Global, mut parts: Vec<Part>) -> Result<Box<Expr>, OutOfMemory>
+    ensures { IfOk result (λ e. expr_of e.value ≡ whole (map part_of parts.items)) }
 {
     let Some(last) = parts.pop() else {
-        return Ok(Expr {
-            pos: Pos { line: 1, col: 1 },
-            node: ExprNode::Unit,
-        });
+        return unit_at(alloc, Pos { line: 1, col: 1 });
     };
     let mut rest = ending(alloc, last)?;
     while let Some(part) = parts.pop() {

@@ -56,10 +56,10 @@ pub fn counted_repeat(
     names: &mut u32,
     pos: Pos,
     range: Range,
-    body: Expr,
-) -> Result<Expr, OutOfMemory>
-    ensures expr { IfOk result (λ e. expr_of e ≡ repeat_of pos (loop_names names.old).0 range.counter
-        (expr_of range.first) (expr_of range.bound) (expr_of body)) }
+    body: Box<Expr>,
+) -> Result<Box<Expr>, OutOfMemory>
+    ensures expr { IfOk result (λ e. expr_of e.value ≡ repeat_of pos (loop_names names.old).0 range.counter
+        (expr_of range.first.value) (expr_of range.bound.value) (expr_of body.value)) }
     ensures next { IfOk result (λ e. names.new ≡ names.old + 3) }
 {
     let numbers = loop_names(names)?;
@@ -72,13 +72,13 @@ pub fn gathered_repeat(
     names: &mut u32,
     pos: Pos,
     range: Range,
-    start: Binding,
-    body: Expr,
-) -> Result<Expr, OutOfMemory>
-    ensures expr { IfOk result (λ e. expr_of e ≡ repeat_into_of pos (loop_names names.old).0
-        (Fresh (names.old + 3)) range.counter (expr_of range.first) (expr_of range.bound)
-        (source_of (name_of_binding start)) (type_or_dyn pos (type_of_binding start)) (value_of_binding start)
-        (expr_of body)) }
+    start: Box<Binding>,
+    body: Box<Expr>,
+) -> Result<Box<Expr>, OutOfMemory>
+    ensures expr { IfOk result (λ e. expr_of e.value ≡ repeat_into_of pos (loop_names names.old).0
+        (Fresh (names.old + 3)) range.counter (expr_of range.first.value) (expr_of range.bound.value)
+        (source_of (name_of_binding start.value)) (type_or_dyn pos (type_of_binding start.value))
+        (value_of_binding start.value) (expr_of body.value)) }
     ensures next { IfOk result (λ e. names.new ≡ names.old + 3 + 1) }
 {
     let (numbers, value) = gathering_names(names)?;

@@ -34,21 +34,21 @@ pub enum Part {
     /// An expression.
     Expr {
         pos: Pos,
-        expr: Expr,
+        expr: Box<Expr>,
     },
     /// The definition of a value.
     Value {
         pos: Pos,
         name: Name,
         ty: Option<TypeExpr>,
-        value: Expr,
+        value: Box<Expr>,
     },
     /// The definition of a function.
     Function {
         pos: Pos,
         name: Name,
         ty: Option<TypeExpr>,
-        fun: LambdaExpr,
+        fun: Box<LambdaExpr>,
     },
 }
 

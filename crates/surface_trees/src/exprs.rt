@@ -2,6 +2,7 @@
 
 use crate::names::Ident;
 use crate::types::{Params, TypeExpr};
+use grift_base::drop_along;
 use grift_base::operators::PrimOp;
 use grift_base::places::Pos;
 
@@ -105,28 +106,12 @@ impl Drop for ExprNode {
             ExprNode::Int(_) | ExprNode::Bool(_) | ExprNode::Unit => {}
             ExprNode::Name(name) => drop(name),
             ExprNode::Lambda(lambda) => drop(lambda),
-            ExprNode::Call(function, arguments) => {
-                drop(function);
-                drop(arguments);
-            }
-            ExprNode::Let(bindings, body) => {
-                drop(bindings);
-                drop(body);
-            }
-            ExprNode::Letrec(members, body) => {
-                drop(members);
-                drop(body);
-            }
-            ExprNode::If(condition, on_true, on_false) => {
-                drop(condition);
-                drop(on_true);
-                drop(on_false);
-            }
+            ExprNode::Call(function, arguments) => drop((function, arguments)),
+            ExprNode::Let(bindings, body) => drop((bindings, body)),
+            ExprNode::Letrec(members, body) => drop((members, body)),
+            ExprNode::If(condition, on_true, on_false) => drop((condition, on_true, on_false)),
             ExprNode::Begin(list) | ExprNode::Tuple(list) | ExprNode::Prim(_, list) => drop(list),
-            ExprNode::Ascribe(inner, ty) => {
-                drop(inner);
-                drop(ty);
-            }
+            ExprNode::Ascribe(inner, ty) => drop((inner, ty)),
             ExprNode::Proj(tuple, _, _) => drop(tuple),
         }
     }
@@ -191,36 +176,21 @@ impl Drop for Member {
 impl Drop for ExprList {
     #[cycle(expr)]
     fn drop(mut self) {
-        loop {
-            match self {
-                ExprList::Nil => return,
-                ExprList::Cons(_, rest) => self = Box::into_inner(rest),
-            }
-        }
+        drop_along!(self, ExprList)
     }
 }
 
 impl Drop for Bindings {
     #[cycle(expr)]
     fn drop(mut self) {
-        loop {
-            match self {
-                Bindings::Nil => return,
-                Bindings::Cons(_, rest) => self = Box::into_inner(rest),
-            }
-        }
+        drop_along!(self, Bindings)
     }
 }
 
 impl Drop for Members {
     #[cycle(expr)]
     fn drop(mut self) {
-        loop {
-            match self {
-                Members::Nil => return,
-                Members::Cons(_, rest) => self = Box::into_inner(rest),
-            }
-        }
+        drop_along!(self, Members)
     }
 }
 
@@ -231,14 +201,14 @@ impl ExprList {
     ghost use Rattle.surface_trees.specs.declared.exprs.ExprList.{size-ExprList};
 
     /// The first expression and those behind it, if there is one.
-    pub fn split(self) -> Option<(Expr, ExprList)>
+    pub fn split(self) -> Option<(Box<Expr>, ExprList)>
         ensures none { IfNone result (exprs_of self ≡ NoExprs) }
-        ensures some { IfSome result (λ two. exprs_of self ≡ ExprThen (expr_of two.0) (exprs_of two.1)) }
+        ensures some { IfSome result (λ two. exprs_of self ≡ ExprThen (expr_of two.0.value) (exprs_of two.1)) }
         ensures smaller { IfSome result (λ two. size-ExprList two.1 < size-ExprList self) }
     {
         match self {
             ExprList::Nil => None,
-            ExprList::Cons(first, rest) => Some((Box::into_inner(first), Box::into_inner(rest))),
+            ExprList::Cons(first, rest) => Some((first, Box::into_inner(rest))),
         }
     }
 }

@@ -3,6 +3,7 @@
 ghost use Rattle.std.specs.Prelude.{◌≡◌, IfOk};
 
 use crate::names::Ident;
+use grift_base::drop_along;
 use grift_base::lists::{Items, OutOfMemory};
 use grift_base::made::{both, boxed_made};
 use grift_base::places::Pos;
@@ -54,10 +55,7 @@ impl Drop for TypeNode {
     fn drop(self) {
         match self {
             TypeNode::Base(row) => drop(row),
-            TypeNode::Fun(parameters, result) => {
-                drop(parameters);
-                drop(result);
-            }
+            TypeNode::Fun(parameters, result) => drop((parameters, result)),
             TypeNode::Tuple(parts) => drop(parts),
             TypeNode::Ref(content) | TypeNode::Vect(content) => drop(content),
         }
@@ -68,17 +66,11 @@ impl Drop for TypeNode {
 impl Drop for TypeExprs {
     #[cycle(written_type)]
     fn drop(mut self) {
-        loop {
-            match self {
-                TypeExprs::Nil => return,
-                TypeExprs::Cons(_, rest) => self = Box::into_inner(rest),
-            }
-        }
+        drop_along!(self, TypeExprs)
     }
 }
 
 impl TypeExpr {
-    ghost use Rattle.std.specs.Prelude.{◌≡◌, IfOk};
     ghost use Rattle.surface_trees.specs.Views.{type_of};
 
     /// The same type again.
@@ -95,7 +87,6 @@ impl TypeExpr {
 }
 
 impl TypeNode {
-    ghost use Rattle.std.specs.Prelude.{◌≡◌, IfOk};
     ghost use Rattle.surface_trees.specs.Views.{type_node_of};
 
     #[cycle(duplicate)]
@@ -123,7 +114,6 @@ impl TypeNode {
 }
 
 impl TypeExprs {
-    ghost use Rattle.std.specs.Prelude.{◌≡◌, IfOk};
     ghost use Rattle.surface_trees.specs.Views.{types_of};
 
     // A recursion along the list: a tuple has at most eight parts, a function at most six parameters.

@@ -1,7 +1,8 @@
--- The entries of a map of rows, seen as a table of types: what they are once a row was put in.
-use Rattle.std.proofs.Common.{◌≡◌, ◌<◌, List, [], ◌∷◌, ◌++◌, length, sym, ap, ◌∙◌, subst}
-use Rattle.std.specs.Prelude.{Contains}
-use Rattle.std.specs.Map.{values_of}
+-- The entries of a map of rows, seen as a table of types: which are found, and what they are once a row was put in.
+use Rattle.std.proofs.Common.{◌≡◌, ℕ, ◌<◌, false, List, [], ◌∷◌, ◌++◌, length, Some, sym, ap, ◌∙◌, subst}
+use Rattle.std.proofs.Common.{slice_get, position}
+use Rattle.std.specs.Prelude.{Contains, is_some}
+use Rattle.std.specs.Map.{keys_of, values_of, lookup}
 use Rattle.grift_base.specs.Types.{TypeRows, parts_of}
 use Rattle.grift_base.specs.declared.places.TheConstants.{MOST_ENTRIES}
 use Rattle.indexmap.specs.IndexMap.{insert_entry}
@@ -13,11 +14,21 @@ use Rattle.type_graph.specs.contracts.rows.RowPartialEq.TheImpl.{ghosts}
 use Rattle.type_graph.proofs.RowLemmas.{same_row, row_of-injective}
 use Rattle.type_graph.proofs.InternLemmas.{IsKept-push}
 use Rattle.type_graph.proofs.MapEntries.{seen_keys, length-seen_keys, length-values_of, seen_keys-push, values_of-push}
-use Rattle.type_graph.proofs.MapEntries.{insert_entry-absent}
+use Rattle.type_graph.proofs.MapEntries.{insert_entry-absent, found_key, absent_key}
 
 -- the rows of entries, as a table
 abbrev pub table_of : List (Row × Measure) → TypeRows
 table_of es = seen_keys row_of es
+
+-- a row that is looked up stands at the place that is found
+pub row_found : (es : List (Row × Measure)) (row : Row) (i : ℕ) → Some i ≡ position (ghosts.eq row) (keys_of es) →
+    slice_get (table_of es) i ≡ Some (row_of row)
+row_found = found_key same_row row_of row_of-injective
+
+-- and isn't there where none is found
+pub row_absent : (es : List (Row × Measure)) (row : Row) → is_some (lookup (ghosts.eq row) es) ≡ false →
+    ¬ Contains (table_of es) (row_of row)
+row_absent = absent_key same_row row_of row_of-injective
 
 module _ (es new : List (Row × Measure)) (row : Row) (m : Measure) (old : TypeRows) (seen : table_of es ≡ old)
     (absent : ¬ Contains old (row_of row)) (inserted : new ≡ insert_entry ghosts.eq es row m) where

@@ -22,12 +22,9 @@ use Rattle.type_graph.specs.contracts.rows.RowPartialEq.TheImpl.{ghosts}
 same_id : (x y : TypeId) → Decides (ids.eq x y) (x ≡ y)
 same_id x y = (search rules, search rules)
 
-same_ids : (xs ys : List TypeId) → Decides (pointwise ids.eq xs ys) (xs ≡ ys)
-same_ids xs ys = slice_eq-Decides same_id xs ys (pointwise ids.eq xs ys) refl
-
 -- the comparison of rows tells whether they are the same
 pub same_row : (x y : Row) → Decides (ghosts.eq x y) (x ≡ y)
-same_row x y = search (rules, same_ids)
+same_row x y = search (rules, λ (xs ys : List TypeId). slice_eq-Decides same_id xs ys (pointwise ids.eq xs ys) refl)
 
 pub equal_lists : (xs ys : List ℕ) → equal_numbers xs ys ≡ true → xs ≡ ys
 equal_lists [] [] e = refl
@@ -86,9 +83,6 @@ row_is_itself (VectRow content) = numbers_same (content ∷ [])
 type_is : (x y : TypeId) → x.0 ≡ y.0 → x ≡ y
 type_is x y e = λ i. record { 0 = e i }
 
-places_of-injective : (xs ys : List TypeId) → places_of xs ≡ places_of ys → xs ≡ ys
-places_of-injective xs ys e = map-injective (λ (id : TypeId). id.0) type_is xs ys e
-
 -- two rows are seen as one only where they are one
 pub row_of-injective : (x y : Row) → row_of x ≡ row_of y → x ≡ y
 row_of-injective Int Int e = refl
@@ -98,12 +92,12 @@ row_of-injective Dyn Dyn e = refl
 row_of-injective (Fun xs x) (Fun ys y) e =
     let places : places_of xs ≡ places_of ys = cc in
     let answer : x.0 ≡ y.0 = cc in
-    let one = places_of-injective xs ys places in
+    let one = map-injective (λ (id : TypeId). id.0) type_is xs ys places in
     let two = type_is x y answer in
     cc
 row_of-injective (Tuple xs) (Tuple ys) e =
     let places : places_of xs ≡ places_of ys = cc in
-    ap Tuple (places_of-injective xs ys places)
+    ap Tuple (map-injective (λ (id : TypeId). id.0) type_is xs ys places)
 row_of-injective (Ref x) (Ref y) e =
     let content : x.0 ≡ y.0 = cc in
     ap Ref (type_is x y content)

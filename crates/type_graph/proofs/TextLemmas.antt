@@ -9,38 +9,24 @@ use Rattle.grift_base.specs.Types.{VectRow, row_at}
 use Rattle.grift_base.specs.declared.places.TypeId.{TypeId}
 use Rattle.type_graph.specs.Rows.{places_of}
 use Rattle.type_graph.specs.Trees.{EndsWithin, AreFinite, row_parts}
-use Rattle.type_graph.specs.Texts.{each_before_space, each_behind_space, row_text, text_to, type_text}
+use Rattle.type_graph.specs.Texts.{each_between, row_text, text_to, type_text}
 use Rattle.type_graph.proofs.TreeLemmas.{ends_deeper, parts_end_twice}
 
 -- ---- types in a row
 
-before_same : (f g : ℕ → List ℕ) (P : ℕ → Type 0) (xs : List ℕ) → ((s : ℕ) → P s → f s ≡ g s) →
-    All P xs → each_before_space f xs ≡ each_before_space g xs
-before_same f g P [] same all = refl
-before_same f g P (x ∷ xs) same all =
-    ap₂ (λ a b. a ++ codes " " ++ b) (same x (All-head P x xs all))
-    (before_same f g P xs same (All-tail P x xs all))
+between_same : (before behind : List ℕ) (f g : ℕ → List ℕ) (P : ℕ → Type 0) (xs : List ℕ) →
+    ((s : ℕ) → P s → f s ≡ g s) → All P xs → each_between before behind f xs ≡ each_between before behind g xs
+between_same before behind f g P [] same all = refl
+between_same before behind f g P (x ∷ xs) same all =
+    ap₂ (λ a b. before ++ a ++ behind ++ b) (same x (All-head P x xs all))
+    (between_same before behind f g P xs same (All-tail P x xs all))
 
-behind_same : (f g : ℕ → List ℕ) (P : ℕ → Type 0) (xs : List ℕ) → ((s : ℕ) → P s → f s ≡ g s) →
-    All P xs → each_behind_space f xs ≡ each_behind_space g xs
-behind_same f g P [] same all = refl
-behind_same f g P (x ∷ xs) same all =
-    ap₂ (λ a b. codes " " ++ a ++ b) (same x (All-head P x xs all))
-    (behind_same f g P xs same (All-tail P x xs all))
-
-pub each_before_space-push : (f : ℕ → List ℕ) (xs : List ℕ) (x : ℕ) →
-    each_before_space f (xs ++ x ∷ []) ≡ each_before_space f xs ++ (f x ++ codes " ")
-each_before_space-push f [] x = append-nil (f x ++ codes " ")
-each_before_space-push f (y ∷ xs) x =
-    ap (λ l. f y ++ codes " " ++ l) (each_before_space-push f xs x)
-    ∙ sym (append_assoc (f y ++ codes " ") (each_before_space f xs) (f x ++ codes " "))
-
-pub each_behind_space-push : (f : ℕ → List ℕ) (xs : List ℕ) (x : ℕ) →
-    each_behind_space f (xs ++ x ∷ []) ≡ each_behind_space f xs ++ (codes " " ++ f x)
-each_behind_space-push f [] x = append-nil (codes " " ++ f x)
-each_behind_space-push f (y ∷ xs) x =
-    ap (λ l. codes " " ++ f y ++ l) (each_behind_space-push f xs x)
-    ∙ sym (append_assoc (codes " " ++ f y) (each_behind_space f xs) (codes " " ++ f x))
+each_between-push : (before behind : List ℕ) (f : ℕ → List ℕ) (xs : List ℕ) (x : ℕ) →
+    each_between before behind f (xs ++ x ∷ []) ≡ each_between before behind f xs ++ (before ++ f x ++ behind)
+each_between-push before behind f [] x = append-nil (before ++ f x ++ behind)
+each_between-push before behind f (y ∷ xs) x =
+    ap (λ l. before ++ f y ++ behind ++ l) (each_between-push before behind f xs x)
+    ∙ sym (append_assoc (before ++ f y ++ behind) (each_between before behind f xs) (before ++ f x ++ behind))
 
 -- ---- the row decides
 
@@ -58,10 +44,10 @@ row_text-same f g P (Some UnitRow) same all = refl
 row_text-same f g P (Some DynRow) same all = refl
 row_text-same f g P (Some (FunRow parameters answer)) same all =
     let parts = split_last P parameters answer all in
-    ap₂ (λ a b. codes "(" ++ a ++ codes "-> " ++ b ++ codes ")") (before_same f g P parameters same parts.0)
-    (same answer parts.1)
+    ap₂ (λ a b. codes "(" ++ a ++ codes "-> " ++ b ++ codes ")")
+    (between_same (codes "") (codes " ") f g P parameters same parts.0) (same answer parts.1)
 row_text-same f g P (Some (TupleRow parts)) same all =
-    ap (λ a. codes "(Tuple" ++ a ++ codes ")") (behind_same f g P parts same all)
+    ap (λ a. codes "(Tuple" ++ a ++ codes ")") (between_same (codes " ") (codes "") f g P parts same all)
 row_text-same f g P (Some (RefRow content)) same all =
     ap (λ a. codes "(Ref " ++ a ++ codes ")") (same content (All-head P content [] all))
 row_text-same f g P (Some (VectRow content)) same all =
@@ -94,13 +80,13 @@ module _ (types : TypeRows) (finite : AreFinite types) (a : ℕ) (within : a < l
       e ∙ ap (λ l. before ++ l) (sym (text_by_row types finite a within ∙ ap (row_text (type_text types)) at))
 
   pub fun_written : (parameters : List ℕ) (answer : ℕ) → row_at types a ≡ Some (FunRow parameters answer) →
-      (((before ++ codes "(") ++ each_before_space (type_text types) parameters) ++ codes "-> ")
+      (((before ++ codes "(") ++ each_between (codes "") (codes " ") (type_text types) parameters) ++ codes "-> ")
       ++ type_text types answer
       ++ codes ")" ≡ before ++ type_text types a
   fun_written parameters answer at = behind_row (FunRow parameters answer) at _ (simp append_assoc)
 
   pub tuple_written : (parts : List ℕ) → row_at types a ≡ Some (TupleRow parts) →
-      ((before ++ codes "(Tuple") ++ each_behind_space (type_text types) parts) ++ codes ")" ≡ before
+      ((before ++ codes "(Tuple") ++ each_between (codes " ") (codes "") (type_text types) parts) ++ codes ")" ≡ before
       ++ type_text types a
   tuple_written parts at = behind_row (TupleRow parts) at _ (simp append_assoc)
 
@@ -127,32 +113,21 @@ module _ (types : TypeRows) (finite : AreFinite types) (a : ℕ) (within : a < l
   leaf_written row at = behind_row row at _ refl
 
 -- one type more in a row
-pub before_space_more : (types : TypeRows) (parts : List TypeId) (k : ℕ) (d : TypeId) (before text : List ℕ) →
-    k < length parts → text ≡ before ++ each_before_space (type_text types) (places_of (take k parts)) →
-    (text ++ type_text types (get_or parts k d).0) ++ codes " "
-    ≡ before ++ each_before_space (type_text types) (places_of (take (k + 1) parts))
-before_space_more types parts k d before text within e =
-    append_assoc text (type_text types (get_or parts k d).0) (codes " ")
-    ∙ ap (λ l. l ++ (type_text types (get_or parts k d).0 ++ codes " ")) e
-    ∙ append_assoc before (each_before_space (type_text types) (places_of (take k parts)))
-    (type_text types (get_or parts k d).0 ++ codes " ")
-    ∙ ap (λ l. before ++ l) (sym (each_before_space-push (type_text types) (places_of (take k parts))
+pub between_more : (before behind : List ℕ) (types : TypeRows) (parts : List TypeId) (k : ℕ) (d : TypeId)
+    (start text : List ℕ) → k < length parts →
+    text ≡ start ++ each_between before behind (type_text types) (places_of (take k parts)) →
+    ((text ++ before) ++ type_text types (get_or parts k d).0) ++ behind
+    ≡ start ++ each_between before behind (type_text types) (places_of (take (k + 1) parts))
+between_more before behind types parts k d start text within e =
+    let more = before ++ type_text types (get_or parts k d).0 ++ behind in
+    let one : ((text ++ before) ++ type_text types (get_or parts k d).0) ++ behind ≡ text ++ more =
+    simp append_assoc in
+    one
+    ∙ ap (λ l. l ++ more) e
+    ∙ append_assoc start (each_between before behind (type_text types) (places_of (take k parts))) more
+    ∙ ap (λ l. start ++ l) (sym (each_between-push before behind (type_text types) (places_of (take k parts))
     (get_or parts k d).0))
-    ∙ ap (λ l. before ++ each_before_space (type_text types) l)
-    (sym (map_more (λ (id : TypeId). id.0) parts k d within))
-
-pub behind_space_more : (types : TypeRows) (parts : List TypeId) (k : ℕ) (d : TypeId) (before text : List ℕ) →
-    k < length parts → text ≡ before ++ each_behind_space (type_text types) (places_of (take k parts)) →
-    (text ++ codes " ") ++ type_text types (get_or parts k d).0
-    ≡ before ++ each_behind_space (type_text types) (places_of (take (k + 1) parts))
-behind_space_more types parts k d before text within e =
-    append_assoc text (codes " ") (type_text types (get_or parts k d).0)
-    ∙ ap (λ l. l ++ (codes " " ++ type_text types (get_or parts k d).0)) e
-    ∙ append_assoc before (each_behind_space (type_text types) (places_of (take k parts)))
-    (codes " " ++ type_text types (get_or parts k d).0)
-    ∙ ap (λ l. before ++ l) (sym (each_behind_space-push (type_text types) (places_of (take k parts))
-    (get_or parts k d).0))
-    ∙ ap (λ l. before ++ each_behind_space (type_text types) l)
+    ∙ ap (λ l. start ++ each_between before behind (type_text types) l)
     (sym (map_more (λ (id : TypeId). id.0) parts k d within))
 
 -- parameters and result of a function, as parts of its row

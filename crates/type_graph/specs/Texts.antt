@@ -3,15 +3,11 @@ use Rattle.std.specs.Prelude.{ℕ, zero, suc, List, [], ◌∷◌, ◌++◌, len
 use Rattle.grift_base.specs.Types.{TypeRow, TypeRows, IntRow, BoolRow, UnitRow, DynRow, FunRow, TupleRow, RefRow}
 use Rattle.grift_base.specs.Types.{VectRow, row_at}
 
--- the texts of these types, each with a space behind it
-abbrev pub each_before_space : (ℕ → List ℕ) → List ℕ → List ℕ
-each_before_space text [] = []
-each_before_space text (type ∷ types) = text type ++ codes " " ++ each_before_space text types
-
--- the texts of these types, each with a space before it
-abbrev pub each_behind_space : (ℕ → List ℕ) → List ℕ → List ℕ
-each_behind_space text [] = []
-each_behind_space text (type ∷ types) = codes " " ++ text type ++ each_behind_space text types
+-- the texts of these types, each between these two
+abbrev pub each_between : List ℕ → List ℕ → (ℕ → List ℕ) → List ℕ → List ℕ
+each_between before behind text [] = []
+each_between before behind text (type ∷ types) =
+    before ++ text type ++ behind ++ each_between before behind text types
 
 abbrev pub row_text : (ℕ → List ℕ) → Option TypeRow → List ℕ
 row_text text (Some IntRow) = codes "Int"
@@ -19,8 +15,8 @@ row_text text (Some BoolRow) = codes "Bool"
 row_text text (Some UnitRow) = codes "Unit"
 row_text text (Some DynRow) = codes "Dyn"
 row_text text (Some (FunRow parameters answer)) =
-    codes "(" ++ each_before_space text parameters ++ codes "-> " ++ text answer ++ codes ")"
-row_text text (Some (TupleRow parts)) = codes "(Tuple" ++ each_behind_space text parts ++ codes ")"
+    codes "(" ++ each_between (codes "") (codes " ") text parameters ++ codes "-> " ++ text answer ++ codes ")"
+row_text text (Some (TupleRow parts)) = codes "(Tuple" ++ each_between (codes " ") (codes "") text parts ++ codes ")"
 row_text text (Some (RefRow content)) = codes "(Ref " ++ text content ++ codes ")"
 row_text text (Some (VectRow content)) = codes "(Vect " ++ text content ++ codes ")"
 row_text text None = []

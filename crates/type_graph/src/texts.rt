@@ -2,7 +2,7 @@
 
 ghost use Rattle.std.specs.Prelude.{◌≡◌, ◌<◌, ◌++◌, All, IfOk, OnOk, length};
 ghost use Rattle.type_graph.specs.Rows.{places_of};
-ghost use Rattle.type_graph.specs.Texts.{each_before_space, each_behind_space, type_text};
+ghost use Rattle.type_graph.specs.Texts.{each_between, type_text};
 
 use crate::rows::Row;
 use crate::tables::TypeTable;
@@ -35,14 +35,14 @@ fn write_type(text: &mut Text, types: &TypeTable, t: TypeId) -> Result<(), OutOf
         Row::Dyn => text.extend(b"Dyn"),
         Row::Fun(parameters, result) => {
             text.extend(b"(")?;
-            write_each_before_space(text, types, parameters.as_slice())?;
+            write_each(text, types, parameters.as_slice(), b"", b" ")?;
             text.extend(b"-> ")?;
             write_type(text, types, *result)?;
             text.extend(b")")
         }
         Row::Tuple(parts) => {
             text.extend(b"(Tuple")?;
-            write_each_behind_space(text, types, parts.as_slice())?;
+            write_each(text, types, parts.as_slice(), b" ", b"")?;
             text.extend(b")")
         }
         Row::Ref(content) => {
@@ -58,36 +58,23 @@ fn write_type(text: &mut Text, types: &TypeTable, t: TypeId) -> Result<(), OutOf
     }
 }
 
-// Writes each of these types with a space behind it.
+// Writes each of these types between these two texts.
 #[cycle(write)]
-fn write_each_before_space(
+fn write_each(
     text: &mut Text,
     types: &TypeTable,
     parts: &[TypeId],
+    before: &[u8],
+    behind: &[u8],
 ) -> Result<(), OutOfMemory>
     requires { All (λ part. part < length types.now) (places_of parts.now) }
-    ensures { OnOk result (text.new ≡ text.old ++ each_before_space (type_text types.now) (places_of parts.now)) }
+    ensures { OnOk result (text.new ≡ text.old
+        ++ each_between before.now behind.now (type_text types.now) (places_of parts.now)) }
 {
     for part in parts {
+        text.extend(before)?;
         write_type(text, types, *part)?;
-        text.extend(b" ")?;
-    }
-    Ok(())
-}
-
-// Writes each of these types with a space before it.
-#[cycle(write)]
-fn write_each_behind_space(
-    text: &mut Text,
-    types: &TypeTable,
-    parts: &[TypeId],
-) -> Result<(), OutOfMemory>
-    requires { All (λ part. part < length types.now) (places_of parts.now) }
-    ensures { OnOk result (text.new ≡ text.old ++ each_behind_space (type_text types.now) (places_of parts.now)) }
-{
-    for part in parts {
-        text.extend(b" ")?;
-        write_type(text, types, *part)?;
+        text.extend(behind)?;
     }
     Ok(())
 }

@@ -62,75 +62,58 @@ fn header(kind: Kind, height: u16, count: u32) -> u64 {
     })
 }
 
-// A memory of these words, of which the one at a place may be another.
+// An object: its kind, its height, how many words stand behind its header, and these.
+type Object = (Kind, u16, u32, &'static [u64]);
+
+// A memory of these objects, of which the word at a place may be another.
 fn storage_of(
     alloc: Global,
-    pieces: &[Piece],
+    objects: &[Object],
     change: Option<(usize, Piece)>,
 ) -> Result<Storage, OutOfMemory> {
-    let mut words = WordList::new(alloc);
-    for (at, piece) in pieces.iter().enumerate() {
-        let piece = match change {
-            Some((place, other)) if place == at => other,
-            _ => *piece,
-        };
-        words.push(piece.word())?;
+    let mut words = Vec::new(alloc);
+    for (kind, height, count, behind) in objects {
+        words.push(header(*kind, *height, *count))?;
+        words.extend_from_slice(behind)?;
     }
-    Ok(Storage { words })
+    if let Some((place, piece)) = change {
+        if let Some(word) = words.get_mut(place) {
+            *word = piece.word();
+        }
+    }
+    Ok(Storage {
+        words: WordList::from_vec(words),
+    })
 }
 
 // One type of each of two heights, and behind them, from 65,560 on, an object of each kind that may stand in a region.
-const EACH_KIND: &[Piece] = &[
-    Piece::Header(Kind::IntType, 0, 0),
-    Piece::Header(Kind::RefType, 1, 1),
-    Piece::Word(65_536),
-    Piece::Header(Kind::Closure, 0, 1),
-    Piece::Word(65_536),
-    Piece::Header(Kind::Boxed, 0, 1),
-    Piece::Word(7),
-    Piece::Header(Kind::Fail, 0, 1),
-    Piece::Word(0),
-    Piece::Header(Kind::Fun, 1, 2),
-    Piece::Word(0),
-    Piece::Word(65_592),
-    Piece::Header(Kind::Tup, 2, 1),
-    Piece::Word(65_608),
-    Piece::Header(Kind::Ref, 1, 2),
-    Piece::Word(0),
-    Piece::Word(0),
-    Piece::Header(Kind::Vec, 1, 2),
-    Piece::Word(0),
-    Piece::Word(65_592),
-    Piece::Header(Kind::Inject, 1, 2),
-    Piece::Word(65_648),
-    Piece::Word(65_544),
-    Piece::Header(Kind::Project, 1, 3),
-    Piece::Word(65_544),
-    Piece::Word(3),
-    Piece::Word(65_592),
-    Piece::Header(Kind::Dyn, 0, 2),
-    Piece::Word(65_536),
-    Piece::Word(5),
-    Piece::Header(Kind::Proxy, 0, 2),
-    Piece::Word(65_560),
-    Piece::Word(65_608),
-    Piece::Header(Kind::Proxy, 0, 2),
-    Piece::Word(65_776),
-    Piece::Word(65_632),
-    Piece::Header(Kind::Tuple, 0, 2),
-    Piece::Word(1),
-    Piece::Word(2),
-    Piece::Header(Kind::Vector, 0, 0),
+const EACH_KIND: &[Object] = &[
+    (Kind::IntType, 0, 0, &[]),
+    (Kind::RefType, 1, 1, &[65_536]),
+    (Kind::Closure, 0, 1, &[65_536]),
+    (Kind::Boxed, 0, 1, &[7]),
+    (Kind::Fail, 0, 1, &[0]),
+    (Kind::Fun, 1, 2, &[0, 65_592]),
+    (Kind::Tup, 2, 1, &[65_608]),
+    (Kind::Ref, 1, 2, &[0, 0]),
+    (Kind::Vec, 1, 2, &[0, 65_592]),
+    (Kind::Inject, 1, 2, &[65_648, 65_544]),
+    (Kind::Project, 1, 3, &[65_544, 3, 65_592]),
+    (Kind::Dyn, 0, 2, &[65_536, 5]),
+    (Kind::Proxy, 0, 2, &[65_560, 65_608]),
+    (Kind::Proxy, 0, 2, &[65_776, 65_632]),
+    (Kind::Tuple, 0, 2, &[1, 2]),
+    (Kind::Vector, 0, 0, &[]),
 ];
 
 // A box of one word.
-const BOX: &[Piece] = &[Piece::Header(Kind::Boxed, 0, 1), Piece::Word(42)];
+const BOX: &[Object] = &[(Kind::Boxed, 0, 1, &[42])];
 
-// What is walked in a memory of words of which one may be changed, from one address up to another. None where these
-// are in the wrong order, or no memory is left.
+// What is walked in a memory of objects of which one word may be changed, from one address up to another. None where
+// these are in the wrong order, or no memory is left.
 fn walked(
     alloc: Global,
-    pieces: &[Piece],
+    objects: &[Object],
     change: Option<(usize, Piece)>,
     from: u64,
     end: u64,
@@ -138,57 +121,47 @@ fn walked(
     if end < from {
         return None;
     }
-    let memory = storage_of(alloc, pieces, change).ok()?;
+    let memory = storage_of(alloc, objects, change).ok()?;
     Some(walk(&memory, from, end))
 }
 
-// The words of a memory, the first address, the last, and what is walked.
-const WALKS: &[(&[Piece], u64, u64, Result<SpaceReport, WalkFault>)] = &[
-    (
-        EACH_KIND,
-        65_560,
-        65_856,
-        Ok(SpaceReport {
-            bytes: 296,
-            objects: 14,
-            proxies: 2,
-            stacked: 1,
-            highest: 2,
-        }),
-    ),
+// What a walk reports: bytes, objects, proxies, those of them that are stacked, and the greatest height.
+type Report = (u64, u64, u64, u64, u32);
+
+fn reported(
+    alloc: Global,
+    objects: &[Object],
+    from: u64,
+    end: u64,
+) -> Option<Result<Report, WalkFault>> {
+    match walked(alloc, objects, None, from, end)? {
+        Ok(
+            SpaceReport {
+                bytes,
+                objects,
+                proxies,
+                stacked,
+                highest,
+            },
+        ) => Some(Ok((bytes, objects, proxies, stacked, highest))),
+        Err(fault) => Some(Err(fault)),
+    }
+}
+
+// The objects of a memory, the first address, the last, and what is walked.
+const WALKS: &[(&[Object], u64, u64, Result<Report, WalkFault>)] = &[
+    (EACH_KIND, 65_560, 65_856, Ok((296, 14, 2, 1, 2))),
     (EACH_KIND, 65_560, 65_840, Err(WalkFault::Torn(65_824))),
-    (
-        EACH_KIND,
-        65_560,
-        65_560,
-        Ok(SpaceReport {
-            bytes: 0,
-            objects: 0,
-            proxies: 0,
-            stacked: 0,
-            highest: 0,
-        }),
-    ),
-    (
-        BOX,
-        65_536,
-        65_552,
-        Ok(SpaceReport {
-            bytes: 16,
-            objects: 1,
-            proxies: 0,
-            stacked: 0,
-            highest: 0,
-        }),
-    ),
+    (EACH_KIND, 65_560, 65_560, Ok((0, 0, 0, 0, 0))),
+    (BOX, 65_536, 65_552, Ok((16, 1, 0, 0, 0))),
     (BOX, 65_536, 65_544, Err(WalkFault::Torn(65_536))),
 ];
 
 #[test]
 fn rows_are_reported(rt: HostRuntime) {
-    for (pieces, from, end, wanted) in WALKS {
+    for (objects, from, end, wanted) in WALKS {
         assert!(rt;
-            walked(rt.alloc(), pieces, None, *from, *end) == Some(*wanted),
+            reported(rt.alloc(), objects, *from, *end) == Some(*wanted),
             "up to {end}"
         );
     }
@@ -234,20 +207,15 @@ fn each_condition_tears_where_it_breaks(rt: HostRuntime) {
 }
 
 // A type of each kind.
-const TYPES: &[Piece] = &[
-    Piece::Header(Kind::IntType, 0, 0),
-    Piece::Header(Kind::BoolType, 0, 0),
-    Piece::Header(Kind::UnitType, 0, 0),
-    Piece::Header(Kind::DynType, 0, 0),
-    Piece::Header(Kind::FunType, 1, 2),
-    Piece::Word(65_536),
-    Piece::Word(65_544),
-    Piece::Header(Kind::TupleType, 1, 1),
-    Piece::Word(65_536),
-    Piece::Header(Kind::RefType, 1, 1),
-    Piece::Word(65_536),
-    Piece::Header(Kind::VecType, 1, 1),
-    Piece::Word(65_536),
+const TYPES: &[Object] = &[
+    (Kind::IntType, 0, 0, &[]),
+    (Kind::BoolType, 0, 0, &[]),
+    (Kind::UnitType, 0, 0, &[]),
+    (Kind::DynType, 0, 0, &[]),
+    (Kind::FunType, 1, 2, &[65_536, 65_544]),
+    (Kind::TupleType, 1, 1, &[65_536]),
+    (Kind::RefType, 1, 1, &[65_536]),
+    (Kind::VecType, 1, 1, &[65_536]),
 ];
 
 // Whether a whole type stands at an address in statics, and none in a region.

@@ -61,10 +61,8 @@ impl Pool {
         to: TypeId,
         label: LabelId,
     ) -> CoercionId {
-        assert!(rt;
-            from.0 < self.types.len() && to.0 < self.types.len(),
-            "no type is there"
-        );
+        let types = self.types.len();
+        assert!(rt; from.0 < types && to.0 < types, "no type is there");
         coerce(alloc, &mut self.table, &self.types, from, to, label).expect(rt, "memory")
     }
 
@@ -76,10 +74,8 @@ impl Pool {
         c: CoercionId,
         d: CoercionId,
     ) -> CoercionId {
-        assert!(rt;
-            c.0 < self.table.len() && d.0 < self.table.len(),
-            "no coercion is there"
-        );
+        let coercions = self.table.len();
+        assert!(rt; c.0 < coercions && d.0 < coercions, "no coercion is there");
         compose(alloc, &mut self.table, &self.types, c, d).expect(rt, "memory")
     }
 

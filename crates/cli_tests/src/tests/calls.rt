@@ -25,28 +25,27 @@ pub(crate) const BLAMED: Row = Row { status: 3, ..RUN };
 
 pub(crate) const TRAPPED: Row = Row { status: 4, ..RUN };
 
+// No image is put.
+const NO_IMAGE: Row = Row { img: false, ..RUN };
+
 pub(crate) const REFUSED: Row = Row {
     status: 1,
-    img: false,
-    ..RUN
+    ..NO_IMAGE
 };
 
 pub(crate) const CHECK: Row = Row {
     words: "check a",
-    img: false,
-    ..RUN
+    ..NO_IMAGE
 };
 
 pub(crate) const MODEL: Row = Row {
     words: "model a --steps 1000",
-    img: false,
-    ..RUN
+    ..NO_IMAGE
 };
 
 pub(crate) const EXEC: Row = Row {
     words: "exec a",
-    img: false,
-    ..RUN
+    ..NO_IMAGE
 };
 
 pub(crate) const ON_INPUT: Row = Row {

@@ -237,44 +237,37 @@ pub(crate) const INPUTS: &[Row] = &[
     },
 ];
 
+// A call whose input holds 5, and whose load fails.
+const UNLOADED: Row = Row {
+    input: "5",
+    status: 8,
+    img: false,
+    err: "load failed\n",
+    ..ON_INPUT
+};
+
 // The file is loaded first, then the input, then the source is read.
 pub(crate) const LOADS: &[Row] = &[
     Row {
         file: Text("(begin (print-int (read-int)) (read-int))"),
-        input: "5",
         shelf_fails: &[0],
-        status: 8,
         asked: 1,
-        img: false,
-        err: "load failed\n",
-        ..ON_INPUT
+        ..UNLOADED
     },
     Row {
         file: Text("(begin (print-int (read-int)) (read-int))"),
-        input: "5",
         shelf_fails: &[1],
-        status: 8,
-        img: false,
-        err: "load failed\n",
-        ..ON_INPUT
+        ..UNLOADED
     },
     Row {
         words: "run a --input c",
         file: Text("(begin (print-int (read-int)) (read-int))"),
-        input: "5",
-        status: 8,
-        img: false,
-        err: "load failed\n",
-        ..ON_INPUT
+        ..UNLOADED
     },
     Row {
         file: Text("("),
-        input: "5",
         shelf_fails: &[1],
-        status: 8,
-        img: false,
-        err: "load failed\n",
-        ..ON_INPUT
+        ..UNLOADED
     },
     Row {
         file: Text("("),
@@ -297,11 +290,7 @@ pub(crate) const LOADS: &[Row] = &[
     Row {
         words: "model a --steps 5 --input b",
         file: Text("("),
-        input: "5",
         shelf_fails: &[1],
-        status: 8,
-        img: false,
-        err: "load failed\n",
-        ..ON_INPUT
+        ..UNLOADED
     },
 ];

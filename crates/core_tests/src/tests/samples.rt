@@ -20,33 +20,30 @@ pub(crate) const DYN_TO_DYN: TypeId = TypeId(4);
 
 pub(crate) const PAIR: TypeId = TypeId(5);
 
-// Puts a row into a table that it fits.
-fn put(rt: &impl Abort, types: &mut TypeTable, row: Row) {
-    assert!(rt; types.fits(&row));
-    types.intern(row).expect(rt, "memory");
+fn ids(rt: &impl Abort, alloc: Global, ids: &[TypeId]) -> TypeIds {
+    TypeIds::from_slice(alloc, ids).expect(rt, "memory")
 }
 
-// Puts the type of functions from a type to the same.
-fn put_function(rt: &impl Abort, alloc: Global, types: &mut TypeTable, ty: TypeId) {
-    let parameters = TypeIds::from_slice(alloc, &[ty]).expect(rt, "memory");
-    put(rt, types, Row::Fun(parameters, ty));
-}
-
-// Puts the type of pairs of an integer and a truth value.
-fn put_pair(rt: &impl Abort, alloc: Global, types: &mut TypeTable) {
-    let parts = TypeIds::from_slice(alloc, &[INT, BOOL]).expect(rt, "memory");
-    put(rt, types, Row::Tuple(parts));
+// The type at this place.
+fn sample_type(rt: &impl Abort, alloc: Global, place: TypeId) -> Row {
+    match place {
+        INT => Row::Int,
+        BOOL => Row::Bool,
+        DYN => Row::Dyn,
+        INT_TO_INT => Row::Fun(ids(rt, alloc, &[INT]), INT),
+        DYN_TO_DYN => Row::Fun(ids(rt, alloc, &[DYN]), DYN),
+        _ => Row::Tuple(ids(rt, alloc, &[INT, BOOL])),
+    }
 }
 
 // The types that the tests name by their places.
 pub(crate) fn sample_types(rt: &impl Abort, alloc: Global) -> TypeTable {
     let mut types = TypeTable::new(alloc).expect(rt, "memory");
-    put(rt, &mut types, Row::Int);
-    put(rt, &mut types, Row::Bool);
-    put(rt, &mut types, Row::Dyn);
-    put_function(rt, alloc, &mut types, INT);
-    put_function(rt, alloc, &mut types, DYN);
-    put_pair(rt, alloc, &mut types);
+    for place in 0..=PAIR.0 {
+        let row = sample_type(rt, alloc, TypeId(place));
+        assert!(rt; types.fits(&row));
+        types.intern(row).expect(rt, "memory");
+    }
     types
 }
 

@@ -43,67 +43,54 @@ fn terms_are_built_from_the_front(rt: HostRuntime) {
     assert!(rt; are_three(&terms));
 }
 
-// Two functions of a group, in order.
-fn two_members(rt: &impl Abort, alloc: Global) -> GroupMembers {
-    let mut members = GroupMembers::new();
-    for name in 0..2 {
-        let member = GroupMember {
-            name: VarId(name),
-            params: VarIds::new(alloc),
-            body: Core::Unit,
-            ty: TypeId(3),
-        };
-        members.push_front(alloc, member).expect(rt, "memory");
+// Whether two items stand in a list in the order of their numbers, the second of which is of this form.
+macro_rules! in_order {
+    ($rt:ident, $list:ident, $number:ident => $item:expr, $last:pat) => {{
+        let mut items = $list::new();
+        let empty = items.is_empty();
+        for $number in 0..2u32 {
+            items.push_front($rt.alloc(), $item).expect(&$rt, "memory");
+        }
+        let items = items.reversed();
+        let last = matches!(items.get(1), Some($last));
+        (empty, items.len(), last, items.get(2).is_none()) == (true, 2, true, true)
+    }};
+}
+
+fn member(alloc: Global, name: u32) -> GroupMember {
+    GroupMember {
+        name: VarId(name),
+        params: VarIds::new(alloc),
+        body: Core::Unit,
+        ty: TypeId(3),
     }
-    members.reversed()
 }
 
 #[test]
 fn functions_of_a_group_are_built_from_the_front(rt: HostRuntime) {
-    assert!(rt; GroupMembers::new().is_empty());
-    let members = two_members(&rt, rt.alloc());
-    let last = matches!(members.get(1), Some(member) if member.name == VarId(1));
-    assert!(rt; (members.len(), last, members.get(2).is_none()) == (2, true, true));
+    let both =
+        in_order!(rt, GroupMembers, name => member(rt.alloc(), name), GroupMember { name: VarId(1), .. });
+    assert!(rt; both);
 }
 
-// Two bindings, in order.
-fn two_bindings(rt: &impl Abort, alloc: Global) -> CoreBindings {
-    let mut bindings = CoreBindings::new();
-    for name in 0..2 {
-        let binding = CoreBinding {
-            name: VarId(name),
-            value: Core::Bool(name == 1),
-        };
-        bindings.push_front(alloc, binding).expect(rt, "memory");
+fn binding(name: u32) -> CoreBinding {
+    CoreBinding {
+        name: VarId(name),
+        value: Core::Bool(name == 1),
     }
-    bindings.reversed()
 }
 
 #[test]
 fn bindings_are_built_from_the_front(rt: HostRuntime) {
-    assert!(rt; CoreBindings::new().is_empty());
-    let bindings = two_bindings(&rt, rt.alloc());
-    let last = matches!(bindings.get(1), Some(binding) if binding.name == VarId(1));
-    assert!(rt; (bindings.len(), last, bindings.get(2).is_none()) == (2, true, true));
-}
-
-// Two values, in order.
-fn two_values(rt: &impl Abort, alloc: Global) -> Values {
-    let mut values = Values::new();
-    for number in 0..2 {
-        values
-            .push_front(alloc, Value::Int(number))
-            .expect(rt, "memory");
-    }
-    values.reversed()
+    let both =
+        in_order!(rt, CoreBindings, name => binding(name), CoreBinding { name: VarId(1), .. });
+    assert!(rt; both);
 }
 
 #[test]
 fn values_are_built_from_the_front(rt: HostRuntime) {
-    assert!(rt; Values::new().is_empty());
-    let values = two_values(&rt, rt.alloc());
-    let last = matches!(values.get(1), Some(Value::Int(1)));
-    assert!(rt; (values.len(), last, values.get(2).is_none()) == (2, true, true));
+    let both = in_order!(rt, Values, number => Value::Int(i64::from(number)), Value::Int(1));
+    assert!(rt; both);
 }
 
 // A list is longer than the process's stack is deep.

@@ -3,7 +3,7 @@ use Rattle.std.proofs.Common.{Bool, true, false, ℕ, zero, suc, ◌+◌, ◌≡
 use Rattle.std.proofs.Common.{refl, ◌∙◌, subst, sym, nat_lt, ◌==◌}
 use Rattle.std.proofs.Common.{pos, negsuc, ℤ}
 use Rattle.std.specs.Prelude.{slice_get}
-use Rattle.grift_base.specs.Types.{TypeRow, IntRow, BoolRow, UnitRow, DynRow, FunRow, TupleRow, RefRow, VectRow}
+use Rattle.grift_base.specs.Types.{TypeRow, DynRow}
 use Rattle.grift_base.specs.declared.operators.PrimOp.{PrimOp}
 use Rattle.grift_base.specs.declared.operators.PrimOp.TheVariants.{Add, Sub, Mul, Quot, Rem, Lt, Le, Eq as Equal, Ge}
 use Rattle.grift_base.specs.declared.operators.PrimOp.TheVariants.{Gt, Not, PrintInt, Newline, ReadInt, MakeBox}
@@ -222,14 +222,8 @@ module _ (number : ℕ) (wants : WantsRoom number) where
     shown_none answer = by answer (no 0 refl refl)
       where
         by : (answer : TypeRow) → (0 == number) ≡ false → calls number (show_by answer) ≡ false
-        by IntRow e = rw e refl
-        by BoolRow e = rw e refl
-        by UnitRow e = rw e refl
         by DynRow e = rw e refl
-        by (FunRow parameters result) e = rw e refl
-        by (TupleRow parts) e = rw e refl
-        by (RefRow content) e = rw e refl
-        by (VectRow content) e = rw e refl
+        by _ e = rw e refl
 
     pub lowered_none : (procs : List FlatProc) (entry : ℕ) (answer : TypeRow) (serving : List Proc)
         → any_calls number serving ≡ false → any_calls number (lowered run procs entry answer serving) ≡ false

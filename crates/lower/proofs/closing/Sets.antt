@@ -17,7 +17,7 @@ use Rattle.lower.specs.declared.served.CastWay.{CastWay}
 use Rattle.lower.specs.declared.served.Served.{Served}
 use Rattle.lower.specs.Lowered.{low_proc, entry_proc, lowered}
 use Rattle.lower.specs.Serving.{takes, Serve}
-use Rattle.lower.specs.Sets.{StandFrom, ServesAnywhere, with_casts, merged_procs, merged_numbers}
+use Rattle.lower.specs.Sets.{StandFrom, ServesAnywhere, GiveUpNowhere, with_casts, merged_procs, merged_numbers}
 use Rattle.lower.proofs.closing.Programs.{lowered_programs_are_closed}
 
 -- ---- what stands in front of others, and behind them
@@ -58,16 +58,7 @@ stand_behind run flat entry answer set k p e = go flat ∙ e
 
 serve_with : (numbers : Served) (words : List ℕ) (ways : List CastWay) (procs : List Proc) → Serve numbers procs
     → Serve (with_casts numbers words ways) procs
-serve_with numbers words ways procs s = record {
-  cast = s.cast;
-  project = s.project;
-  apply = s.apply;
-  read = s.read;
-  write = s.write;
-  fill = s.fill;
-  multiply = s.multiply;
-  divide = s.divide;
-}
+serve_with numbers words ways procs s = assumption s
 
 pub programs_with_sets_are_closed : (set : List Proc) (numbers : Served) (words : List ℕ) (ways : List CastWay)
     (flat : List FlatProc) (entry : ℕ) (answer : TypeRow) → ServesAnywhere set (suc (length flat)) numbers
@@ -79,6 +70,20 @@ programs_with_sets_are_closed set numbers words ways flat entry answer serves h 
     let stand = stand_behind run flat entry answer set in
     lowered_programs_are_closed run flat entry answer set h
     (serve_with numbers words ways procs (serves.serve procs stand)) (serves.closed procs stand)
+
+-- a set serves wherever it stands where it does so behind each program
+pub serves_anywhere : (set : List Proc) (first : ℕ) (numbers : Served)
+    → ((procs : List Proc) → StandFrom procs first set → Serve numbers procs)
+    → ((procs : List Proc) → StandFrom procs first set → each_closed procs set ≡ true) → GiveUpNowhere set
+    → suc (suc numbers.multiply) ≡ length set + first → suc numbers.divide ≡ length set + first
+    → ServesAnywhere set first numbers
+serves_anywhere set first numbers serve closed persist multiply_last divide_last = record {
+  serve = serve;
+  closed = closed;
+  persist = persist;
+  multiply_last = multiply_last;
+  divide_last = divide_last;
+}
 
 -- ---- the merged scheme
 
@@ -112,10 +117,6 @@ module _ (procs : List Proc) (first : ℕ) (s : StandFrom procs first (merged_pr
       (s 2 _ refl) refl)
 
 pub merged_serves_anywhere : (first : ℕ) → ServesAnywhere (merged_procs first) first (merged_numbers first)
-merged_serves_anywhere first = record {
-  serve = λ procs s. merged_serves procs first s;
-  closed = λ procs s. merged_closed procs first s;
-  persist = (refl, refl);
-  multiply_last = omega arith;
-  divide_last = omega arith;
-}
+merged_serves_anywhere first =
+    serves_anywhere (merged_procs first) first (merged_numbers first) (λ procs s. merged_serves procs first s)
+    (λ procs s. merged_closed procs first s) (refl, refl) (omega arith) (omega arith)

@@ -24,16 +24,7 @@ use Rattle.lower.proofs.words.Standing.{stands_as}
 use Rattle.lower.proofs.merging.Laws.{merged_laws}
 use Rattle.lower.proofs.merging.Reads.{merged_reads, merged_unboxes, merged_measures}
 use Rattle.lower.proofs.merging.Writes.{merged_writes, merged_sets}
-use Rattle.lower.proofs.simulation.Fills.{LetsFill, vectors_are_served}
-
--- the account lets vectors be made
-merged_lets : (l : Layout) (casts : List TypeCast) (m : Measures) → LetsFill merged_meaning l casts m
-merged_lets l casts m = record {
-  serving = omega arith;
-  asks = λ n. omega arith;
-  budget = λ n. omega arith;
-  traps = omega arith;
-}
+use Rattle.lower.proofs.simulation.Fills.{plainly_lets, vectors_are_served}
 
 -- Behind the procedures for casts stand those for calls, reads, writes and vectors.
 module _ (setting : Setting) (l : Layout) (procs : List Proc) (casts : List TypeCast) (m : Measures)
@@ -75,6 +66,7 @@ module _ (setting : Setting) (l : Layout) (procs : List Proc) (casts : List Type
     writes = merged_writes setting l procs casts m measured first run placed types held.tallest ready region;
     fill = fill_proc fill_loop_number;
     fill_stands = served_as Fill run.fill (fill_proc fill_loop_number) refl fill_is refl;
-    fills = vectors_are_served merged_meaning merged_laws setting l procs casts m (merged_lets l casts m) placed region
+    fills = vectors_are_served merged_meaning merged_laws setting l procs casts m
+        (plainly_lets merged_meaning l casts m (omega arith) (λ n. refl) refl) placed region
         narrow fill_loop_number (stands_at (ref_place FillLoop) fill_loop_number _ refl refl) run;
   }

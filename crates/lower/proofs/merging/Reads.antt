@@ -1,7 +1,7 @@
 -- The procedure read of the merged scheme does what the operators that read boxes and elements of vectors do, and the
 -- one that tells a vector's length.
 use Rattle.std.proofs.Common.{◌≡◌, ℕ, suc, ◌+◌, ◌*◌, ◌^◌, ◌<◌, ◌≤◌, ℤ, pos, negsuc, List, [], ◌∷◌, length}
-use Rattle.std.proofs.Common.{Some, None, Option, Bool, true, false, refl, sym, ap, ◌∙◌, subst, arith, slice_get}
+use Rattle.std.proofs.Common.{Some, None, Option, true, false, refl, sym, ap, ◌∙◌, subst, arith, slice_get}
 use Rattle.std.proofs.Common.{append-nil, le_refl}
 use Rattle.std.specs.Prelude.{option_map, ◌==◌, ◌++◌}
 use Rattle.grift_base.specs.Types.{TypeHead}
@@ -15,7 +15,7 @@ use Rattle.coercion_norm.specs.Coercions.{Coercion, Id, rows_of}
 use Rattle.cast_modes.specs.Modes.{Mode, TypeCast}
 use Rattle.coercion_norm.specs.Normal.{IsNormal}
 use Rattle.coercion_norm.specs.MergedMode.{merging, cell_coercion}
-use Rattle.cast_modes.specs.RunValues.{RunInt, RunBool, RunUnit, RunFun, RunTuple, RunLoc, RunWrap, RunInject}
+use Rattle.cast_modes.specs.RunValues.{RunInt, RunLoc, RunWrap}
 use Rattle.cast_modes.specs.RunValues.{in_row}
 use Rattle.cast_modes.specs.ValueSteps.{Return, On, TrapOf, NoNext, CastFrame, PrimFrame, on_some}
 use Rattle.cast_modes.specs.ValueSteps.{run_unbox_cell}
@@ -38,8 +38,8 @@ use Rattle.lower.proofs.references.OverObjects.{elements_are_read, indices_outsi
 use Rattle.lower.specs.declared.served.Served.{Served}
 use Rattle.lower.specs.Keeping.{FitsMeasures}
 use Rattle.lower.specs.MergedMeaning.{merged_meaning}
-use Rattle.lower.specs.CarriedValues.{AreCarried, CellHeld}
-use Rattle.lower.specs.SchemeLaws.{Here, After, Goes, Returns, ReturnsAt, Answers, OperatorDone, Aim, IsPending}
+use Rattle.lower.specs.CarriedValues.{AreCarried}
+use Rattle.lower.specs.SchemeLaws.{Here, After, Goes, ReturnsAt, Answers, OperatorDone, IsPending}
 use Rattle.lower.specs.SchemeLaws.{at_or_zero, operator_leaves}
 use Rattle.lower.proofs.heap.CarriedLater.{cells_below}
 use Rattle.lower.proofs.merging.Bounds.{cast_fits}
@@ -49,10 +49,10 @@ use Rattle.lower.proofs.merging.Turns.{cell_part_normal}
 use Rattle.lower.proofs.merging.Chains.{begun_by}
 use Rattle.lower.proofs.merging.Chains.{Walking, returned_now, cast_next}
 use Rattle.lower.proofs.merging.Stages.{Stands, stays, lands, trapped_at, calm_as}
-use Rattle.lower.proofs.merging.States.{element_past, past_element, as_many}
+use Rattle.lower.proofs.merging.States.{element_past, past_element}
 use Rattle.lower.proofs.words.Arithmetic.{positive_is, negative_is, small_fits}
 use Rattle.lower.proofs.merging.States.{element}
-use Rattle.lower.proofs.merging.States.{Situation, situated, speech, filled_as, held, stands, short}
+use Rattle.lower.proofs.merging.States.{Situation, CellHere, situated, speech, cell_here, filled_as}
 
 -- a value in a proxy is no bare one
 pub no_proxy : (a b : ℕ) (c : Coercion) → Solid a ≡ Proxied b c → ⊥
@@ -66,33 +66,16 @@ pub too_many : {C : Type 0} (procs : List Proc) (mode : Mode C) (store : FlatSto
     (base : List (FlatFrame C)) (cell : ℕ) (index x : FlatValue C) (more : List (FlatValue C))
     → flat_operate procs mode store world VectorRef (RunLoc cell true ∷ index ∷ x ∷ more) base ≡ NoNext
 too_many procs mode store world base cell (RunInt n) x more = refl
-too_many procs mode store world base cell (RunBool b) x more = refl
-too_many procs mode store world base cell RunUnit x more = refl
-too_many procs mode store world base cell (RunFun code captured) x more = refl
-too_many procs mode store world base cell (RunTuple values) x more = refl
-too_many procs mode store world base cell (RunLoc other b) x more = refl
-too_many procs mode store world base cell (RunWrap y z) x more = refl
-too_many procs mode store world base cell (RunInject y z) x more = refl
+too_many procs mode store world base cell _ x more = refl
 
 module _ (setting : Setting) (l : Layout) (procs : List Proc) (casts : List TypeCast) (m : Measures)
     (situation : Situation setting l procs casts m) where
   open situation use {measured, first, placed, types, tallest, ready, s, number, places, objects, store, here, base}
-  open (speech setting l procs casts m situation) use {
-    rt_filled,
-    is_ready,
-    acting,
-    C,
-    Cs,
-    element_here,
-    with_element,
-  }
+  open (speech setting l procs casts m situation) use {rt_filled, is_ready, acting, aim}
+  open (speech setting l procs casts m situation) use {C, Cs, element_here, with_element}
 
   abbrev deep : ℕ
   deep = 4 * l.tallest + 6
-
-  abbrev aim : Aim merged_meaning setting l procs casts m
-  aim focus frames store' n left t =
-      Returns merged_meaning setting l procs casts m s operator_leaves places objects base focus frames store' n left t
 
   -- the turns go to a return, behind one that is an act, with so much credit before
   abbrev Does : LowState → FlatAfter Coercion → ℕ → ℕ → Type 0
@@ -149,28 +132,10 @@ module _ (setting : Setting) (l : Layout) (procs : List Proc) (casts : List Type
 
   -- ---- a cell of the store, at an address, seen through its proxy, if it has one
 
-  module _ (is_vector : Bool) (cell : ℕ) (values : List (FlatValue Coercion))
-      (in_store : slice_get store cell ≡ Some values) (a : ℕ) (c : C (RunLoc cell is_vector) a) (x : Merged ℕ) (wv : ℕ)
+  module _ (values : List (FlatValue Coercion)) (a : ℕ)
+      (known : CellHere setting l procs casts m situation values a) (x : Merged ℕ) (wv : ℕ)
       (hv : Carries l objects x wv) where
-    abbrev cell_held : CellHeld l setting.address procs merged_meaning places objects s.memory a values
-    cell_held =
-        held setting l procs casts m places objects placed s.memory store here.cells is_vector cell values in_store a c
-
-    abbrev cell_words : List ℕ
-    cell_words = cell_held.words
-
-    long : length cell_words ≡ length values
-    long = as_many setting l procs casts m places objects values cell_words cell_held.carried
-
-    few : length cell_words < 2 ^ 63
-    few =
-        short setting l procs casts m places objects placed s.memory store here.cells is_vector cell values in_store a c
-        s.alloc here.filled.ends here.filled.fits
-
-    stands_here : Rattle.lower.specs.CellLaws.CellStands l objects s.memory a cell_words
-    stands_here =
-        stands setting l procs casts m places objects placed s.memory store here.cells is_vector cell values in_store a
-        c
+    open known use {cell_words, carried_words, long, stands_here}
 
     -- no element is there
     outside : under x ≡ Some a → (which : ℕ) → (which == 2) ≡ false → (i : ℕ) → slice_get values i ≡ None
@@ -195,7 +160,7 @@ module _ (setting : Setting) (l : Layout) (procs : List Proc) (casts : List Type
       H = solid_head setting l procs places objects v
 
       word : (w : ℕ) × (slice_get cell_words i ≡ Some w) × C v w
-      word = element setting l procs casts m places objects values cell_words cell_held.carried i v got
+      word = element setting l procs casts m places objects values cell_words carried_words i v got
 
       like : (y : Merged ℕ) × Like setting l procs places objects v y × Carries l objects y word.0
       like = like_of setting l procs places objects placed (heap_of s) here.filled v word.0 word.2
@@ -247,8 +212,9 @@ module _ (setting : Setting) (l : Layout) (procs : List Proc) (casts : List Type
     by_index : (cell : ℕ) (values : List (FlatValue Coercion)) (in_store : slice_get store cell ≡ Some values)
         (c : C (RunLoc cell true) a) → Elements → (i : ℕ) (o : Option (FlatValue Coercion)) → slice_get values i ≡ o
         → Does (reads_at 1 wv i) (element_here o i (λ place v. On (Return v) frames store s.world)) credit n
-    by_index cell values in_store c each i None e = outside true cell values in_store a c x wv hv below 1 refl i e
-        credit n
+    by_index cell values in_store c each i None e =
+        outside values a (cell_here setting l procs casts m situation true cell values in_store a c) x wv hv below 1
+        refl i e credit n
     by_index cell values in_store c each i (Some v) e = each cell values in_store c i v e
 
     by_store : (cell : ℕ) (c : C (RunLoc cell true) a) → Elements → (z : ℤ) (wi : ℕ) → C (RunInt z) wi
@@ -264,9 +230,10 @@ module _ (setting : Setting) (l : Layout) (procs : List Proc) (casts : List Type
     by_store cell c each (negsuc k) wi ci (Some values) e =
         let high = negative_is k ci.1 in
         let word = ci.0 in
-        let many = long true cell values e a c x wv hv in
-        let lt = few true cell values e a c x wv hv in
-        outside true cell values e a c x wv hv below 1 refl wi (past_element values wi
+        let known = cell_here setting l procs casts m situation true cell values e a c in
+        let many = known.long in
+        let lt = known.few in
+        outside values a known x wv hv below 1 refl wi (past_element values wi
         (omega (arith, high, word, many, lt)))
         credit n
 
@@ -290,7 +257,8 @@ module _ (setting : Setting) (l : Layout) (procs : List Proc) (casts : List Type
       in
       by_value (Solid wv) wv wv very refl base 0 number
       (λ cell values in_store c i v got.
-      bare_after true cell values in_store wv c (Solid wv) wv very Id refl tt 1 refl i v got refl (omega arith)
+      bare_after values wv (cell_here setting l procs casts m situation true cell values in_store wv c) (Solid wv) wv
+      very Id refl tt 1 refl i v got refl (omega arith)
       (omega arith) 0 number)
       (RunLoc cell true) index wi (wv, refl, c) ci
 
@@ -323,7 +291,8 @@ module _ (setting : Setting) (l : Layout) (procs : List Proc) (casts : List Type
           goes_on 1 wv wi (Return index) (PrimFrame VectorRef (vec ∷ []) ∷ CastFrame d ∷ base) tt refl refl number
           (by_value (Proxied p.0 wrapper) wv p.0 p.2 refl (CastFrame d ∷ base) 896 (number + 0)
           (λ cell values in_store c i v got.
-          cast_after true cell values in_store p.0 c (Proxied p.0 wrapper) wv p.2 d b.0 b.1 1 refl i v got 896
+          cast_after values p.0 (cell_here setting l procs casts m situation true cell values in_store p.0 c)
+          (Proxied p.0 wrapper) wv p.2 d b.0 b.1 1 refl i v got 896
           (number + 0)) vec index wi p.1 ci)
 
   reads_for : (vs : List (FlatValue Coercion)) (ws : List ℕ) → Cs vs ws
@@ -386,7 +355,8 @@ module _ (setting : Setting) (l : Layout) (procs : List Proc) (casts : List Type
           goes_on 0 wv 0 (Return box) (PrimFrame Unbox [] ∷ CastFrame d ∷ base) tt refl refl number
           (box_value wv p.0 (CastFrame d ∷ base) 896 (number + 0)
           (λ cell values in_store c v got.
-          cast_after false cell values in_store p.0 c (Proxied p.0 wrapper) wv p.2 d b.0 b.1 0 refl 0 v got 896
+          cast_after values p.0 (cell_here setting l procs casts m situation false cell values in_store p.0 c)
+          (Proxied p.0 wrapper) wv p.2 d b.0 b.1 0 refl 0 v got 896
           (number + 0)) box p.1)
 
   unboxes_for : (box : FlatValue Coercion) (wrapper : Coercion) (rest : List (FlatValue Coercion)) (ws : List ℕ)
@@ -430,19 +400,19 @@ module _ (setting : Setting) (l : Layout) (procs : List Proc) (casts : List Type
         (on_some o (λ elements. On (Return (RunInt (pos (length elements)))) base store s.world)) credit n
     length_in_store cell c None e = (0, refl)
     length_in_store cell c (Some values) e =
-        let words = cell_words true cell values e a c x wv hv in
-        let z = lengths_are_told ending_of setting l first s refl is_ready objects rt_filled x wv hv a below words
-        (stands_here true cell values e a c x wv hv) 0 in
-        let k = length words in
+        let known = cell_here setting l procs casts m situation true cell values e a c in
+        let z = lengths_are_told ending_of setting l first s refl is_ready objects rt_filled x wv hv a below
+        known.cell_words known.stands_here 0 in
+        let k = length known.cell_words in
         subst (λ y. Does (reads_at 2 wv 0) (On (Return (RunInt (pos y))) base store s.world) credit n)
-        (long true cell values e a c x wv hv) (
+        known.long (
           0,
           (
             refl,
             lands setting l procs casts m s s refl refl 0 0 57 operator_leaves (omega arith) (reads_at 2 wv 0) refl
                 (TellsAt setting l s objects k) z.0 z.2 z.3 acting credit (omega arith) (omega arith) n (n + 0)
                 (λ left u. aim (Return (RunInt (pos k))) base store (n + 0) left u)
-                (λ u room g. (refl, le_refl operator_leaves, tells (n + 0) k u (few true cell values e a c x wv hv) g)),
+                (λ u room g. (refl, le_refl operator_leaves, tells (n + 0) k u known.few g)),
           ),
         )
 

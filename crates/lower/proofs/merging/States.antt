@@ -32,7 +32,7 @@ use Rattle.lower.specs.Keeping.{FitsMeasures}
 use Rattle.lower.specs.MergedMeaning.{merged_meaning}
 use Rattle.lower.specs.Storage.{Filled}
 use Rattle.lower.specs.CarriedValues.{CarriedIn, AreCarried, CellHeld}
-use Rattle.lower.specs.SchemeLaws.{Here, StopsNow}
+use Rattle.lower.specs.SchemeLaws.{Here, StopsNow, Returns, Aim, operator_leaves}
 use Rattle.lower.proofs.heap.Cells.{cell_of, there_is}
 use Rattle.lower.proofs.heap.Objects.{none_some, same_some}
 use Rattle.lower.proofs.words.Steps.{lt_true}
@@ -227,10 +227,12 @@ pub record Situation (setting : Setting) (l : Layout) (procs : List Proc) (casts
   pub base : List (FlatFrame Coercion)
 
 -- what its laws speak of: that storage is as casts need it, and they are ready, the price of an act, which words stand
--- for values, and what the numbered procedures do with an element that may be there, or with that of a number
-pub record Speech (setting : Setting) (l : Layout) (first : ℕ) (objects : List Object) (s : LowState) : Type 1 where
-  pub rt_filled : RtFilled setting l objects (heap_of s)
-  pub is_ready : IsReady setting l first
+-- for values, what the numbered procedures do with an element that may be there, or with that of a number, and the
+-- return that it comes to
+pub record Speech (setting : Setting) (l : Layout) (procs : List Proc) (casts : List TypeCast) (m : Measures)
+    (x : Situation setting l procs casts m) : Type 1 where
+  pub rt_filled : RtFilled setting l x.objects (heap_of x.s)
+  pub is_ready : IsReady setting l x.first
   pub acting : Cost
   pub C : FlatValue Coercion → ℕ → Type 0
   pub Cs : List (FlatValue Coercion) → List ℕ → Type 0
@@ -238,6 +240,17 @@ pub record Speech (setting : Setting) (l : Layout) (first : ℕ) (objects : List
       → FlatAfter Coercion
   pub with_element : List (FlatValue Coercion) → ℤ → (ℕ → FlatValue Coercion → FlatAfter Coercion)
       → FlatAfter Coercion
+  pub aim : Aim merged_meaning setting l procs casts m
+
+-- what is told of a cell of its store: the words at the cell's address
+pub record CellHere (setting : Setting) (l : Layout) (procs : List Proc) (casts : List TypeCast) (m : Measures)
+    (x : Situation setting l procs casts m) (values : List (FlatValue Coercion)) (a : ℕ) : Type 0 where
+  pub cell_words : List ℕ
+  pub carried_words : Cs setting l procs casts m x.places x.objects values cell_words
+  pub long : length cell_words ≡ length values
+  pub few : length cell_words < 2 ^ 63
+  pub stands_here : CellStands l x.objects x.s.memory a cell_words
+  pub region_here : CellInRegion l x.objects x.s.memory a cell_words
 
 module _ (setting : Setting) (l : Layout) (procs : List Proc) (casts : List TypeCast) (m : Measures) where
   abbrev pub situated : FitsMeasures l m → (first : ℕ) → Placed setting l → TypesStand l → l.tallest ≤ 65534
@@ -261,7 +274,7 @@ module _ (setting : Setting) (l : Layout) (procs : List Proc) (casts : List Type
     base = base;
   }
 
-  abbrev pub speech : (x : Situation setting l procs casts m) → Speech setting l x.first x.objects x.s
+  abbrev pub speech : (x : Situation setting l procs casts m) → Speech setting l procs casts m x
   speech x = record {
     rt_filled = filled_of setting l x.number x.objects (heap_of x.s) x.here.filled;
     is_ready = record { placed = x.placed; stand = x.ready; types = x.types };
@@ -270,4 +283,26 @@ module _ (setting : Setting) (l : Layout) (procs : List Proc) (casts : List Type
     Cs = Cs setting l procs casts m x.places x.objects;
     element_here = element_or_trap (merging l.types casts) (flat_arity procs) (flat_entered procs) x.store x.s.world;
     with_element = run_with_element (merging l.types casts) (flat_arity procs) (flat_entered procs) x.store x.s.world;
+    aim = λ focus frames store' n left t.
+        Returns merged_meaning setting l procs casts m x.s operator_leaves x.places x.objects x.base focus frames store'
+        n left t;
   }
+
+  abbrev pub cell_here : (x : Situation setting l procs casts m) (is_vector : Bool) (cell : ℕ)
+      (values : List (FlatValue Coercion)) → slice_get x.store cell ≡ Some values → (a : ℕ)
+      → C setting l procs casts m x.places x.objects (RunLoc cell is_vector) a
+      → CellHere setting l procs casts m x values a
+  cell_here x is_vector cell values in_store a c =
+      let known = held setting l procs casts m x.places x.objects x.placed x.s.memory x.store x.here.cells is_vector
+      cell values in_store a c in
+      record {
+        cell_words = known.words;
+        carried_words = known.carried;
+        long = as_many setting l procs casts m x.places x.objects values known.words known.carried;
+        few = short setting l procs casts m x.places x.objects x.placed x.s.memory x.store x.here.cells is_vector cell
+            values in_store a c x.s.alloc x.here.filled.ends x.here.filled.fits;
+        stands_here = stands setting l procs casts m x.places x.objects x.placed x.s.memory x.store x.here.cells
+            is_vector cell values in_store a c;
+        region_here = in_region setting l procs casts m x.places x.objects x.placed x.s.memory x.store x.here.cells
+            is_vector cell values in_store a c;
+      }

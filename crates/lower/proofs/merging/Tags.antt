@@ -1,6 +1,6 @@
 -- Casts that code makes in place, in the merged mode: a value goes into Dyn behind its tag, and comes out of it.
-use Rattle.std.proofs.Common.{◌≡◌, inl, inr, ℕ, ◌+◌, ◌%◌, ◌<◌, ◌≤◌, Bool, true, false, cond, List, [], ◌∷◌, length}
-use Rattle.std.proofs.Common.{Option, Some, None, refl, sym, ap, ap₂, ◌∙◌, subst, arith, slice_get, nat_eq, eqb-true}
+use Rattle.std.proofs.Common.{◌≡◌, inl, inr, ℕ, ◌+◌, ◌%◌, ◌<◌, ◌≤◌, Bool, true, false, List, [], ◌∷◌, length}
+use Rattle.std.proofs.Common.{Option, Some, None, refl, sym, ap, ap₂, ◌∙◌, subst, arith, slice_get, eqb-true}
 use Rattle.std.specs.Prelude.{◌==◌, if◌then◌else◌, max, option_map}
 use Rattle.std.proofs.lemmas.Option.{slice_get-map}
 use Rattle.grift_base.specs.Types.{TypeRow, IntRow, BoolRow, UnitRow, DynRow, FunRow, TupleRow, RefRow, VectRow}
@@ -11,8 +11,8 @@ use Rattle.core_calc.specs.Account.{Measures}
 use Rattle.low_ir.specs.Operations.{compute}
 use Rattle.low_ir.specs.declared.code.WordOp.TheVariants.{Sra}
 use Rattle.low_ir.specs.Run.{Setting, LowState}
-use Rattle.coercion_norm.specs.Coercions.{Coercion, Id, Fail, Inject, Project, rows_of, kind_of}
-use Rattle.coercion_norm.specs.Composition.{coerce_below, coerce_by, coerce_middle}
+use Rattle.coercion_norm.specs.Coercions.{Coercion, Id, Inject, Project, rows_of, kind_of}
+use Rattle.coercion_norm.specs.Composition.{coerce_below, coerce_by}
 use Rattle.coercion_norm.specs.CoercionTables.{cast_of, composition_of}
 use Rattle.coercion_norm.specs.MergedMode.{merging, shape_has_head}
 use Rattle.cast_modes.specs.Modes.{Injecting, NoCast, TypeCast}
@@ -31,6 +31,7 @@ use Rattle.flat_ir.specs.Machine.{FlatValue, FlatFrame, FlatStore, flat_cast, fl
 use Rattle.rt_cast.specs.Carried.{IsLow}
 use Rattle.rt_cast.specs.DynWords.{IsDyn, IsDynBy, behind_tag, small_dyn}
 use Rattle.rt_cast.specs.DynWords.{tag_of as tag_number_of}
+use Rattle.rt_cast.specs.LightCasts.{has_none}
 use Rattle.rt_cast.specs.States.{Placed, heap_of}
 use Rattle.rt_cast.proofs.Public.{SmallIs, small_is, untagged}
 use Rattle.lower.specs.declared.served.Tag.{Tag}
@@ -48,6 +49,8 @@ use Rattle.lower.specs.SchemeLaws.{Walks}
 use Rattle.lower.specs.SchemeLaws.{Here, OnWay, After, Serves, GivesInPlace, CastsInPlace, Aim}
 use Rattle.lower.proofs.heap.Objects.{none_some, same_some, found_within, dyn_header}
 use Rattle.lower.proofs.merging.Casts.{row_of}
+use Rattle.lower.proofs.merging.States.{filled_as, filled_of}
+use Rattle.lower.proofs.merging.Turns.{nothing_between}
 use Rattle.lower.proofs.words.Arithmetic.{tag_some}
 
 -- ---- types with tags
@@ -89,20 +92,13 @@ row_by_number (TupleRow parts) tag e = none_some e
 row_by_number (RefRow content) tag e = none_some e
 row_by_number (VectRow content) tag e = none_some e
 
-no_dyn : (tag : Tag) → is_dyn (tag_row tag) ≡ false
-no_dyn Int = refl
-no_dyn BoolTag = refl
-no_dyn UnitTag = refl
-
-one_head : (tag : Tag) → same_head (tag_row tag) (tag_row tag) ≡ true
-one_head Int = refl
-one_head BoolTag = refl
-one_head UnitTag = refl
-
-no_middle : (tag : Tag) → kind_of (tag_row tag) ≡ None
-no_middle Int = refl
-no_middle BoolTag = refl
-no_middle UnitTag = refl
+-- such a type isn't Dyn, has its own head, and no parts
+plain_row : (tag : Tag)
+    → (is_dyn (tag_row tag) ≡ false) × (same_head (tag_row tag) (tag_row tag) ≡ true)
+    × (has_none (kind_of (tag_row tag)) ≡ true)
+plain_row Int = (refl, refl, refl)
+plain_row BoolTag = (refl, refl, refl)
+plain_row UnitTag = (refl, refl, refl)
 
 -- ---- casts by their ways
 
@@ -148,17 +144,9 @@ module _ (l : Layout) (from to label : ℕ) (tag : Tag) where
   -- a cast between types with the same tag is none
   none_between : R from ≡ tag_row tag → R to ≡ tag_row tag → cast_of l.types from to label ≡ Id
   none_between f t =
-      by_sides false false (ap is_dyn f ∙ no_dyn tag) (ap is_dyn t ∙ no_dyn tag) ∙ by (nat_eq from to)
-    where
-      middle : Coercion
-      middle = coerce_middle R next (kind_of (R from)) from to label
-
-      by : (b : Bool) → cond b Id (cond (same_head (R from) (R to))
-          (coerce_middle R next (kind_of (R from)) from to label) (Fail label)) ≡ Id
-      by true = refl
-      by false =
-          ap (λ b. cond b middle (Fail label)) (ap₂ same_head f t ∙ one_head tag)
-          ∙ ap (λ k. coerce_middle R next k from to label) (ap kind_of f ∙ no_middle tag)
+      let plain = plain_row tag in
+      nothing_between l.types from to label (ap₂ same_head f t ∙ plain.1)
+      (ap (λ row. has_none (kind_of row)) f ∙ plain.2) (ap is_dyn t ∙ plain.0)
 
 -- ---- what the numbered procedures come to
 
@@ -186,13 +174,7 @@ module _ (setting : Setting) (l : Layout) (procs : List Proc) (casts : List Type
   -- the number plays no part
   here_after : (n : ℕ) → Here merged_meaning setting l procs casts m places objects store n (heap_of s)
   here_after n = record {
-    filled = record {
-      objects_stand = here.filled.objects_stand;
-      statics_stand = here.filled.statics_stand;
-      ends = here.filled.ends;
-      fits = here.filled.fits;
-      keeps = here.filled.keeps;
-    };
+    filled = filled_as setting l n objects (heap_of s) (filled_of setting l number objects (heap_of s) here.filled);
     cells = here.cells;
   }
 
@@ -239,8 +221,19 @@ module _ (setting : Setting) (l : Layout) (procs : List Proc) (casts : List Type
         0,
         (
           refl,
-          at_once _ _ _ 896 _ _ (omega arith)
-              (refl, refl, omega arith, here_after (number + 0), (w, dyn, high, ap is_dyn row ∙ no_dyn tag, carried)),
+          at_once _ _ _ 896 _ _ (omega arith) (
+            refl,
+            refl,
+            omega arith,
+            here_after (number + 0),
+            (
+              w,
+              dyn,
+              high,
+              ap is_dyn row ∙ (plain_row tag).0,
+              carried,
+            ),
+          ),
         ),
       )
       by false = (0, refl)
@@ -345,7 +338,7 @@ module _ (setting : Setting) (l : Layout) (procs : List Proc) (casts : List Type
     cast_made word (OutOfDyn tag) j e = by_tag (w % 8 == tag_number tag) refl e
       where
         projects : cast_of l.types from to label ≡ Project to label Id
-        projects = by_sides l from to label tag true false j.0 (ap is_dyn j.1 ∙ no_dyn tag)
+        projects = by_sides l from to label tag true false j.0 (ap is_dyn j.1 ∙ (plain_row tag).0)
 
         by_tag : (b : Bool) → (w % 8 == tag_number tag) ≡ b → (if b then Some (compute Sra w 3) else None) ≡ Some word
             → Made v (cast_of l.types from to label) word

@@ -169,14 +169,14 @@ dyn_same : (row other : TypeRow) → same_head row other ≡ true → is_dyn oth
 dyn_same row other e f = ap (λ h. equal_heads h DynHead) (heads_exact (head_of row) (head_of other) e) ∙ f
 
 -- between types of one head without parts there is nothing to do
-nothing_between : (types : TypeRows) (kept wanted label : ℕ)
+pub nothing_between : (types : TypeRows) (kept wanted label : ℕ)
     → same_head (rows_of types kept) (rows_of types wanted) ≡ true
     → has_none (kind_of (rows_of types kept)) ≡ true → is_dyn (rows_of types wanted) ≡ false
     → cast_of types kept wanted label ≡ Id
 nothing_between types kept wanted label same none solid =
     ap₂ (λ b c. coerce_by R (coerce_below R n) b c kept wanted label)
     (dyn_same (R kept) (R wanted) same solid) solid
-    ∙ by (nat_eq kept wanted) (same_head (R kept) (R wanted)) (kind_of (R kept)) same none
+    ∙ by (nat_eq kept wanted)
   where
     R : ℕ → TypeRow
     R = rows_of types
@@ -184,12 +184,17 @@ nothing_between types kept wanted label same none solid =
     n : ℕ
     n = max (height types kept) (height types wanted)
 
-    by : (b c : Bool) (o : Option Kind) → c ≡ true → has_none o ≡ true
-        → cond b Id (cond c (coerce_middle R (coerce_below R n) o kept wanted label) (Fail label)) ≡ Id
-    by true c o e f = refl
-    by false true None e f = refl
-    by false true (Some kind) e f = absurd (no_true f)
-    by false false o e f = absurd (no_true e)
+    middle : Option Kind → Coercion
+    middle o = coerce_middle R (coerce_below R n) o kept wanted label
+
+    is_none : (o : Option Kind) → has_none o ≡ true → o ≡ None
+    is_none None e = refl
+    is_none (Some kind) e = absurd (no_true e)
+
+    by : (b : Bool) → cond b Id (cond (same_head (R kept) (R wanted)) (middle (kind_of (R kept))) (Fail label)) ≡ Id
+    by true = refl
+    by false =
+        ap (λ c. cond c (middle (kind_of (R kept))) (Fail label)) same ∙ ap middle (is_none (kind_of (R kept)) none)
 
 -- what stands behind a Project with a middle isn't light
 not_light : (rows : ℕ → TypeRow) (i : Coercion) (x : Merged ℕ) → is_project i ≡ false → ends_simply i ≡ false

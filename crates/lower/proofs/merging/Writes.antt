@@ -30,9 +30,10 @@ use Rattle.coercion_norm.specs.ObjectsOfRows.{header}
 use Rattle.coercion_norm.specs.Held.{Layout, TypesStand, There}
 use Rattle.coercion_norm.proofs.Public.{object_kept, found_within}
 use Rattle.flat_ir.specs.Bodies.{Proc}
-use Rattle.flat_ir.specs.FlatTally.{act_cost}
+use Rattle.flat_ir.specs.Counts.{flat_turn_wraps}
+use Rattle.flat_ir.specs.FlatTally.{act_cost, flat_cost}
 use Rattle.coer_core.specs.TurnPrices.{merged_prices}
-use Rattle.flat_ir.specs.Machine.{FlatValue, FlatFrame, FlatAfter, flat_operate, flat_arity, flat_entered}
+use Rattle.flat_ir.specs.Machine.{FlatValue, FlatFrame, FlatAfter, flat_operate, flat_turn, flat_arity, flat_entered}
 use Rattle.rt_cast.specs.ComposeCodes.{cast}
 use Rattle.rt_cast.specs.LightCasts.{cast_words_of, cast_price_of}
 use Rattle.rt_cast.specs.Objects.{HoldsWords}
@@ -49,8 +50,8 @@ use Rattle.lower.specs.MergedMeaning.{merged_meaning, WrapsKind}
 use Rattle.lower.specs.Storage.{Filled}
 use Rattle.lower.specs.CarriedValues.{CarriedIn, AreCarried, CellsHeld, CellHeld}
 use Rattle.lower.specs.Keeping.{FitsMeasures}
-use Rattle.lower.specs.SchemeLaws.{Here, StopsNow, After, Goes, Returns, ReturnsAt, Answers}
-use Rattle.lower.specs.SchemeLaws.{OperatorDone, Aim, at_or_zero, operator_leaves}
+use Rattle.lower.specs.SchemeLaws.{Here, StopsNow, After, Goes, ReturnsAt, Answers, IsPending}
+use Rattle.lower.specs.SchemeLaws.{OperatorDone, at_or_zero, operator_leaves}
 use Rattle.lower.proofs.heap.CarriedLater.{cells_later, cells_below, carried_small, all_later, function_there}
 use Rattle.lower.proofs.heap.Cells.{cells_stored, as_many_cells, set_length, words_stored, there_same}
 use Rattle.lower.proofs.heap.Objects.{none_some, words_same, box_header, vector_header, tuple_header}
@@ -62,11 +63,10 @@ use Rattle.lower.proofs.merging.Chains.{stuck_or_not, gives_some, blames_some}
 use Rattle.lower.proofs.merging.Stages.{HasRoom, Calm, Stands, Stage, Settled, Begun, at_end, begun, settled_calm}
 use Rattle.lower.proofs.merging.Stages.{calm_as, stays, takes, trapped_at, by_writing_law}
 use Rattle.lower.proofs.merging.Turns.{cell_part_normal, Ends, ends_cast, skips}
-use Rattle.lower.proofs.merging.States.{element_past, past_element, as_many, element}
+use Rattle.lower.proofs.merging.States.{element_past, past_element, element}
 use Rattle.lower.proofs.words.Arithmetic.{positive_is, negative_is}
 use Rattle.lower.proofs.merging.States.{blame_stops}
-use Rattle.lower.proofs.merging.States.{Situation, situated, speech, filled_as, held, stands, short}
-use Rattle.lower.proofs.merging.States.{in_region, counted}
+use Rattle.lower.proofs.merging.States.{Situation, situated, speech, cell_here, filled_as, counted}
 
 -- ---- a word of a list, and an element of a cell
 
@@ -90,22 +90,11 @@ fixed_or_cell x y ws n e = cc
 module _ (setting : Setting) (l : Layout) (procs : List Proc) (casts : List TypeCast) (m : Measures)
     (situation : Situation setting l procs casts m) (region : l.region ≡ setting.region) where
   open situation use {measured, first, placed, types, tallest, ready, s, number, places, objects, store, here, base}
-  open (speech setting l procs casts m situation) use {
-    rt_filled,
-    is_ready,
-    acting,
-    C,
-    Cs,
-    element_here,
-    with_element,
-  }
+  open (speech setting l procs casts m situation) use {rt_filled, is_ready, acting, aim}
+  open (speech setting l procs casts m situation) use {C, Cs, element_here, with_element}
 
   abbrev deep : ℕ
   deep = 4 * l.tallest + 7
-
-  abbrev aim : Aim merged_meaning setting l procs casts m
-  aim focus frames store' n left t =
-      Returns merged_meaning setting l procs casts m s operator_leaves places objects base focus frames store' n left t
 
   abbrev Turned : LowState → ℕ → FlatAfter Coercion → ℕ → ℕ → Type 0
   Turned te j x credit n =
@@ -209,34 +198,13 @@ module _ (setting : Setting) (l : Layout) (procs : List Proc) (casts : List Type
   module _ (is_vector : Bool) (cell : ℕ) (values : List (FlatValue Coercion))
       (in_store : slice_get store cell ≡ Some values) (a : ℕ) (c : C (RunLoc cell is_vector) a) (x : Merged ℕ) (wv : ℕ)
       (hv : Carries l objects x wv) where
-    abbrev cell_held : CellHeld l setting.address procs merged_meaning places objects s.memory a values
-    cell_held =
-        held setting l procs casts m places objects placed s.memory store here.cells is_vector cell values in_store a c
-
-    abbrev cell_words : List ℕ
-    cell_words = cell_held.words
-
-    carried_words : Cs values cell_words
-    carried_words = cell_held.carried
-
-    long : length cell_words ≡ length values
-    long = as_many setting l procs casts m places objects values cell_words carried_words
-
-    few : length cell_words < 2 ^ 63
-    few =
-        short setting l procs casts m places objects placed s.memory store here.cells is_vector cell values in_store a c
-        s.alloc
-        here.filled.ends here.filled.fits
-
-    stands_here : Rattle.lower.specs.CellLaws.CellStands l objects s.memory a cell_words
-    stands_here =
-        stands setting l procs casts m places objects placed s.memory store here.cells is_vector cell values in_store a
-        c
-
-    region_here : Rattle.lower.specs.CellLaws.CellInRegion l objects s.memory a cell_words
-    region_here =
-        in_region setting l procs casts m places objects placed s.memory store here.cells is_vector cell values in_store
-        a c
+    open (cell_here setting l procs casts m situation is_vector cell values in_store a c) use {
+      cell_words,
+      carried_words,
+      long,
+      stands_here,
+      region_here,
+    }
 
     -- no element is there
     outside : under x ≡ Some a → (i w : ℕ) → slice_get values i ≡ None → (n : ℕ)
@@ -431,6 +399,26 @@ module _ (setting : Setting) (l : Layout) (procs : List Proc) (casts : List Type
           cast_by a i head_of_it what (what ≡ Stuck) (stuck_or_not what) some_blame wide dear d normal frames ends v
           like.0 like.1 refl refl te begins (cast_fits l m measured 147 0 d like.0 896 (omega arith) (omega arith)) n
 
+      -- the same where the walk is done in the turn behind the cast
+      cast_then : (frames : List (FlatFrame Coercion))
+          → ((u : FlatValue Coercion) → IsPending merged_meaning setting l procs casts m s (Return u) frames)
+          → ((u : FlatValue Coercion) (y : Merged ℕ) → Like setting l procs places objects u y → what ≡ Gives y
+          → (n credit : ℕ) (t : LowState) → DoneHere t
+          → After merged_meaning setting l procs casts m s (Goes merged_meaning setting l procs casts m s aim 0)
+          (flat_turn procs (merging l.types casts) store s.world (Return u) frames)
+          (flat_cost procs (merging l.types casts) (merged_prices l.types (merging l.types casts) m) (Return u) frames)
+          credit n (flat_turn_wraps procs (merging l.types casts) (Return u) frames) t) → (n : ℕ)
+          → Does te (On (Return v) (CastFrame d ∷ frames) store s.world) n
+      cast_then frames pending last =
+          cast_first frames (λ u y like_u head is. (
+            1,
+            λ t done n credit le. (
+              pending u,
+              calm_as setting l procs casts m s t done.stands n,
+              last u y like_u is n credit t done,
+            ),
+          ))
+
   -- ---- elements of vectors
 
   -- of a vector in the store, told what is done with the element
@@ -456,8 +444,9 @@ module _ (setting : Setting) (l : Layout) (procs : List Proc) (casts : List Type
     by_no_place k wi ci =
         let high = negative_is k ci.1 in
         let word = ci.0 in
-        let many = long true cell values in_store a c x wv hv in
-        let lt = few true cell values in_store a c x wv hv in
+        let known = cell_here setting l procs casts m situation true cell values in_store a c in
+        let many = known.long in
+        let lt = known.few in
         outside true cell values in_store a c x wv hv below wi w
         (past_element values wi (omega (arith, high, word, many, lt))) n
 
@@ -507,16 +496,8 @@ module _ (setting : Setting) (l : Layout) (procs : List Proc) (casts : List Type
         let b = behind_it d e in
         let frames : List (FlatFrame Coercion) =
         PrimFrame VectorSet (RunInt (pos k) ∷ RunLoc cell true ∷ []) ∷ base in
-        cast_first true cell values in_store a c (Proxied a wrapper) wv carries d b.0 b.1 1 k old got v w cv frames
-        (λ u y like_u head is. (
-          1,
-          λ t done n credit le. (
-            tt,
-            calm_as setting l procs casts m s t done.stands n,
-            last b u y like_u is n credit t
-                done,
-          ),
-        )) number
+        cast_then true cell values in_store a c (Proxied a wrapper) wv carries d b.0 b.1 1 k old got v w cv frames
+        (λ u. tt) (λ u y like_u is n credit t done. last b u y like_u is n credit t done) number
       where
         last : (b : (cell_behind 1 (Proxied a wrapper) ≡ Some (a, d)) × IsNormal (rows_of l.types) d)
             (u : FlatValue Coercion) (y : Merged ℕ) → Like setting l procs places objects u y
@@ -590,7 +571,7 @@ module _ (setting : Setting) (l : Layout) (procs : List Proc) (casts : List Type
             let p =
             counted setting l procs casts m places objects placed s.memory store here.cells false cell stored.0 stored.1
             a c in
-            let q = long false cell stored.0 stored.1 a c (Proxied a wrapper) wv carries in
+            let q = (cell_here setting l procs casts m situation false cell stored.0 stored.1 a c).long in
             sym q ∙ (sym p ∙ c.3 refl)
 
         by_length : (values : List (FlatValue Coercion)) → slice_get store cell ≡ Some values → length values ≡ 1
@@ -608,17 +589,9 @@ module _ (setting : Setting) (l : Layout) (procs : List Proc) (casts : List Type
     box_by_part cell c old in_store None e = (0, refl)
     box_by_part cell c old in_store (Some d) e =
         let b = behind_it d e in
-        cast_first false cell (old ∷ []) in_store a c (Proxied a wrapper) wv carries d b.0 b.1 0 0 old refl v w cv
+        cast_then false cell (old ∷ []) in_store a c (Proxied a wrapper) wv carries d b.0 b.1 0 0 old refl v w cv
         (PrimFrame BoxSet (RunLoc cell false ∷ []) ∷ base)
-        (λ u y like_u head is. (
-          1,
-          λ t done n credit le. (
-            tt,
-            calm_as setting l procs casts m s t done.stands n,
-            last b u y like_u is n credit t
-                done,
-          ),
-        )) number
+        (λ u. tt) (λ u y like_u is n credit t done. last b u y like_u is n credit t done) number
       where
         last : (b : (cell_behind 1 (Proxied a wrapper) ≡ Some (a, d)) × IsNormal (rows_of l.types) d)
             (u : FlatValue Coercion) (y : Merged ℕ) → Like setting l procs places objects u y
@@ -691,10 +664,9 @@ module _ (setting : Setting) (l : Layout) (procs : List Proc) (casts : List Type
           by Stuck e = absurd (some (λ label q. blames_some label comes_to q e))
           by (Gives y) e = absurd (some (λ label q. blames_or_gives label y comes_to q e))
           by (Blames label) e =
+              let known = cell_here setting l procs casts m situation true cell stored_vector.0 stored_vector.1 a c in
               let z = box_writes_are_blamed ending_of setting l first s refl is_ready tallest objects rt_filled region
-              (λ b. head_in_box) (Proxied a wrapper) wv carries a d b.0
-              (cell_words true cell stored_vector.0 stored_vector.1 a c (Proxied a wrapper) wv carries)
-              (region_here true cell stored_vector.0 stored_vector.1 a c (Proxied a wrapper) wv carries) 0 w like_it.0
+              (λ b. head_in_box) (Proxied a wrapper) wv carries a d b.0 known.cell_words known.region_here 0 w like_it.0
               like_it.2 label e in
               subst Says (sym e) (z.0, z.2, z.3)
 
@@ -781,63 +753,16 @@ module _ (setting : Setting) (l : Layout) (procs : List Proc) (casts : List Type
   writes_three : (vec index v : FlatValue Coercion) (wv wi w : ℕ) → C vec wv → C index wi → C v w
       → Does (writes_at 1 wv wi w) (turn (vec ∷ index ∷ v ∷ []) base) number
   writes_three (RunLoc cell true) (RunInt z) v wv wi w c ci cv = bare_vector cell z v wv wi w c ci cv
-  writes_three (RunLoc cell true) (RunBool b) v wv wi w c ci cv = (0, refl)
-  writes_three (RunLoc cell true) RunUnit v wv wi w c ci cv = (0, refl)
-  writes_three (RunLoc cell true) (RunFun code captured) v wv wi w c ci cv = (0, refl)
-  writes_three (RunLoc cell true) (RunTuple values) v wv wi w c ci cv = (0, refl)
-  writes_three (RunLoc cell true) (RunLoc other b) v wv wi w c ci cv = (0, refl)
-  writes_three (RunLoc cell true) (RunWrap x y) v wv wi w c ci cv = (0, refl)
-  writes_three (RunLoc cell true) (RunInject x y) v wv wi w c ci cv = (0, refl)
-  writes_three (RunLoc cell false) index v wv wi w c ci cv = (0, refl)
-  writes_three (RunInt n) index v wv wi w c ci cv = (0, refl)
-  writes_three (RunBool b) index v wv wi w c ci cv = (0, refl)
-  writes_three RunUnit index v wv wi w c ci cv = (0, refl)
-  writes_three (RunFun code captured) index v wv wi w c ci cv = (0, refl)
-  writes_three (RunTuple values) index v wv wi w c ci cv = (0, refl)
-  writes_three (RunInject x kept) index v wv wi w c ci cv = (0, refl)
   writes_three (RunWrap vec wrapper) (RunInt z) v wv wi w c ci cv =
       let seen = like_of setting l procs places objects placed (heap_of s) here.filled (RunWrap vec wrapper) wv c in
       by_vector seen.1.0 wrapper wv (subst (λ m. Carries l objects m wv) seen.1.1 seen.2) v w cv vec seen.1.2 z wi ci
-  writes_three (RunWrap vec wrapper) (RunBool b) v wv wi w c ci cv = (0, refl)
-  writes_three (RunWrap vec wrapper) RunUnit v wv wi w c ci cv = (0, refl)
-  writes_three (RunWrap vec wrapper) (RunFun code captured) v wv wi w c ci cv = (0, refl)
-  writes_three (RunWrap vec wrapper) (RunTuple values) v wv wi w c ci cv = (0, refl)
-  writes_three (RunWrap vec wrapper) (RunLoc other b) v wv wi w c ci cv = (0, refl)
-  writes_three (RunWrap vec wrapper) (RunWrap x y) v wv wi w c ci cv = (0, refl)
-  writes_three (RunWrap vec wrapper) (RunInject x y) v wv wi w c ci cv = (0, refl)
+  writes_three _ _ v wv wi w c ci cv = (0, refl)
 
   -- another number of operands is none of this operator's
   not_three : (vs : List (FlatValue Coercion)) → (length vs ≡ 3 → ⊥) → turn vs base ≡ NoNext
-  not_three [] ne = refl
-  not_three (RunLoc cell false ∷ rest) ne = refl
-  not_three (RunInt n ∷ rest) ne = refl
-  not_three (RunBool b ∷ rest) ne = refl
-  not_three (RunUnit ∷ rest) ne = refl
-  not_three (RunFun code captured ∷ rest) ne = refl
-  not_three (RunTuple values ∷ rest) ne = refl
-  not_three (RunInject x kept ∷ rest) ne = refl
-  not_three (RunLoc cell true ∷ []) ne = refl
-  not_three (RunLoc cell true ∷ RunInt i ∷ []) ne = refl
   not_three (RunLoc cell true ∷ RunInt i ∷ v ∷ []) ne = absurd (ne refl)
-  not_three (RunLoc cell true ∷ RunInt i ∷ v ∷ x ∷ more) ne = refl
-  not_three (RunLoc cell true ∷ RunBool b ∷ rest) ne = refl
-  not_three (RunLoc cell true ∷ RunUnit ∷ rest) ne = refl
-  not_three (RunLoc cell true ∷ RunFun code captured ∷ rest) ne = refl
-  not_three (RunLoc cell true ∷ RunTuple values ∷ rest) ne = refl
-  not_three (RunLoc cell true ∷ RunLoc other b ∷ rest) ne = refl
-  not_three (RunLoc cell true ∷ RunWrap x y ∷ rest) ne = refl
-  not_three (RunLoc cell true ∷ RunInject x y ∷ rest) ne = refl
-  not_three (RunWrap vec wrapper ∷ []) ne = refl
-  not_three (RunWrap vec wrapper ∷ RunInt i ∷ []) ne = refl
   not_three (RunWrap vec wrapper ∷ RunInt i ∷ v ∷ []) ne = absurd (ne refl)
-  not_three (RunWrap vec wrapper ∷ RunInt i ∷ v ∷ x ∷ more) ne = refl
-  not_three (RunWrap vec wrapper ∷ RunBool b ∷ rest) ne = refl
-  not_three (RunWrap vec wrapper ∷ RunUnit ∷ rest) ne = refl
-  not_three (RunWrap vec wrapper ∷ RunFun code captured ∷ rest) ne = refl
-  not_three (RunWrap vec wrapper ∷ RunTuple values ∷ rest) ne = refl
-  not_three (RunWrap vec wrapper ∷ RunLoc other b ∷ rest) ne = refl
-  not_three (RunWrap vec wrapper ∷ RunWrap x y ∷ rest) ne = refl
-  not_three (RunWrap vec wrapper ∷ RunInject x y ∷ rest) ne = refl
+  not_three _ ne = refl
 
   none : (vs : List (FlatValue Coercion)) → (length vs ≡ 3 → ⊥) → (te : LowState) → Does te (turn vs base) number
   none vs ne te = subst (λ y. Does te y number) (sym (not_three vs ne)) (0, refl)

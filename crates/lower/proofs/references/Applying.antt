@@ -29,6 +29,7 @@ use Rattle.rt_refs.specs.Arguments.{handed}
 use Rattle.rt_refs.specs.CallCodes.{cast_arguments, unwrap_code, call_function, apply_proc}
 use Rattle.lower.proofs.references.Calling.{Has, word_here, word_other, casts_of}
 use Rattle.lower.specs.CallLaws.{CastInTurn, ComesToCall, GoesOnTo, Resumes}
+use Rattle.lower.proofs.references.CellSteps.{in_bounds}
 use Rattle.lower.proofs.references.InTurn.{arguments_cast_in_turn}
 use Rattle.rt_cast.proofs.Public.{proxy_header}
 use Rattle.rt_cast.specs.ComposeCodes.{cast_place}
@@ -122,7 +123,7 @@ module _ {V : Type 0} (reading : Halt → Ending V) (setting : Setting) (l : Lay
       z : ReachedIn w (More 3 0 0 9 End) t0
       z =
           let c = closure hv.0 hv.3 in
-          let last : ReachedIn w End t1 = arrives w (λ room asked. (record { room = room; asked = asked }, refl)) in
+          let last : ReachedIn w End t1 = arrives w (λ room asked. (in_bounds room asked, refl)) in
           at_most w
           (loads w objects fine wv proxy_header (hv.0 ∷ hv.1 ∷ []) 1 hv.0 refl hv.2 refl refl refl
           (loads w objects fine wv proxy_header (hv.0 ∷ hv.1 ∷ []) 2 hv.1 refl hv.2 refl refl refl

@@ -12,9 +12,9 @@ use Rattle.low_ir.specs.Run.{Waiting, LowState, word_of, store, code_turns}
 use Rattle.coercion_norm.specs.Objects.{Object, Cell}
 use Rattle.coercion_norm.specs.Held.{There}
 use Rattle.coercion_norm.proofs.Public.{found_within}
-use Rattle.low_ir.specs.Frames.{frame_room, waiting_room}
+use Rattle.low_ir.specs.Frames.{frame_room, stack_room, waiting_room}
 use Rattle.rt_cast.specs.Objects.{HoldsWords}
-use Rattle.rt_cast.specs.States.{Heap, Fine, st}
+use Rattle.rt_cast.specs.States.{Heap, Fine, Within, st}
 use Rattle.low_ir.specs.Prices.{source_price}
 use Rattle.rt_cast.proofs.Public.{Pay, paid_for, Walk, none_some, word_found, Budget, One, Spare, Comes}
 use Rattle.rt_cast.proofs.Public.{goes, WordThere}
@@ -41,6 +41,11 @@ in_list [] i w e = none_some e
 in_list (x ∷ xs) zero w e = omega arith
 in_list (x ∷ xs) (suc i) w e = let h = in_list xs i w e in omega arith
 
+-- frames and words are within what a procedure may take
+pub in_bounds : {s t : LowState} {frames words : ℕ} → stack_room t ≤ waiting_room s.waiting + 25 * (frames + 1)
+    → t.words ≤ s.words + words → Within s frames words t
+in_bounds room asked = record { room = room; asked = asked }
+
 module _ {V : Type 0} (walk : Walk V) where
   abbrev St : ℕ → Locals → Code → List Code → List Waiting → Heap → LowState
   St = st walk.around
@@ -55,37 +60,33 @@ module _ {V : Type 0} (walk : Walk V) where
       walk.calm (record { count = count; locals = locals; code = code; rests = rests }) waiting h objects fine few
       (let r = s.room in omega arith) (let r = s.left in omega arith)
 
+  -- a word behind a header that stands somewhere below the top
+  word_behind : (h : Heap) (at : ℕ) (ws : List ℕ) → at % 8 ≡ 0 → 65536 ≤ at → at + 8 * length ws + 8 ≤ walk.setting.top
+      → HoldsWords h.memory (at + 8) ws → (i w to : ℕ) → slice_get ws i ≡ Some w → to ≡ at + 8 * i + 8
+      → WordThere walk h to w
+  word_behind h at ws even low high held i w to g t =
+      let x = word_found h.memory (at + 8) ws i w to held g (omega (arith, t)) in
+      let n = in_list ws i w g in
+      record {
+        may = may walk.setting.top to (omega (arith, even, t)) (omega (arith, low, t)) (omega (arith, high, t, n));
+        is = x.is;
+        small = x.small;
+        place = omega (arith, low, t);
+        end = omega (arith, high, t, n, walk.placed.top);
+      }
+
   -- a word of a cell
   pub cell_word : (objects : List Object) (h : Heap) → Fi objects h → (at head : ℕ) (ws : List ℕ)
       → There walk.l objects at (Cell head (length ws)) → HoldsWords h.memory (at + 8) ws → (i w to : ℕ)
       → slice_get ws i ≡ Some w → to ≡ at + 8 * i + 8 → WordThere walk h to w
-  cell_word objects h f at head ws (inl e) held i w to g t =
+  cell_word objects h f at head ws (inl e) =
       let z = found_within walk.l.statics walk.l.first at (Cell head (length ws)) e in
-      let x = word_found h.memory (at + 8) ws i w to held g (omega (arith, t)) in
-      let n = in_list ws i w g in
-      let even = z.even walk.placed.even_first in
-      record {
-        may = may walk.setting.top to (omega (arith, even, t)) (omega (arith, z.low, walk.placed.low, t))
-            (omega (arith, z.high, walk.placed.before, f.filled.ends, f.filled.fits, t, n));
-        is = x.is;
-        small = x.small;
-        place = omega (arith, z.low, walk.placed.low, t);
-        end = omega (arith, z.high, walk.placed.before, f.filled.ends, f.filled.fits, t, n, walk.placed.top);
-      }
-  cell_word objects h f at head ws (inr e) held i w to g t =
+      word_behind h at ws (z.even walk.placed.even_first) (omega (arith, z.low, walk.placed.low))
+      (omega (arith, z.high, walk.placed.before, f.filled.ends, f.filled.fits))
+  cell_word objects h f at head ws (inr e) =
       let z = found_within objects walk.l.region at (Cell head (length ws)) e in
-      let x = word_found h.memory (at + 8) ws i w to held g (omega (arith, t)) in
-      let n = in_list ws i w g in
-      let even = z.even walk.placed.even_region in
-      record {
-        may = may walk.setting.top to (omega (arith, even, t))
-            (omega (arith, z.low, walk.placed.low, walk.placed.before, t))
-            (omega (arith, z.high, f.filled.ends, f.filled.fits, t, n));
-        is = x.is;
-        small = x.small;
-        place = omega (arith, z.low, walk.placed.low, walk.placed.before, t);
-        end = omega (arith, z.high, f.filled.ends, f.filled.fits, t, n, walk.placed.top);
-      }
+      word_behind h at ws (z.even walk.placed.even_region) (omega (arith, z.low, walk.placed.low, walk.placed.before))
+      (omega (arith, z.high, f.filled.ends, f.filled.fits))
 
   module _ {B : Budget} {count : ℕ} {locals : Locals} {rests : List Code} {waiting : List Waiting} {h : Heap}
       (objects : List Object) (fine : Fi objects h) where

@@ -32,7 +32,7 @@ use Rattle.rt_cast.proofs.Public.{if_false, header_there, ReachedIn, End, lt_fal
 use Rattle.rt_refs.specs.CellCodes.{find_cell, take_part, test_index, trap_index}
 use Rattle.lower.specs.CellLaws.{cell_behind, under, CellStands, TrapsAt}
 use Rattle.lower.proofs.references.Calling.{mapped, part_low}
-use Rattle.lower.proofs.references.CellSteps.{ends_branch}
+use Rattle.lower.proofs.references.CellSteps.{ends_branch, in_bounds}
 use Rattle.rt_cast.proofs.Public.{proxy_header, proxy_read}
 
 zero_more : (n : ℕ) → n ≡ n + 0
@@ -223,17 +223,18 @@ module _ {V : Type 0} (reading : Halt → Ending V) (setting : Setting) (l : Lay
       (if_false trapping objects fine i n is many (lt_false i n outside) (last _))
       (omega arith, omega arith, omega arith, omega arith)
     where
+      stopped : (rests' : List Code)
+          → TrapsAt reading setting l s Index (st (around s) 6 locals trap_index rests' s.waiting (heap_of s))
+      stopped rests' = record {
+        objects = objects;
+        fine = fine;
+        last = _;
+        stops = refl;
+        stays = refl;
+        same = refl;
+        same_after = refl;
+      }
+
       last : (rests' : List Code)
           → ReachedIn trapping End (st (around s) 6 locals trap_index rests' s.waiting (heap_of s))
-      last rests' = arrives trapping (λ room asked. (
-        record { room = room; asked = asked },
-        record {
-          objects = objects;
-          fine = fine;
-          last = _;
-          stops = refl;
-          stays = refl;
-          same = refl;
-          same_after = refl;
-        },
-      ))
+      last rests' = arrives trapping (λ room asked. (in_bounds room asked, stopped rests'))

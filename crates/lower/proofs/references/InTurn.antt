@@ -35,6 +35,7 @@ use Rattle.lower.proofs.references.Calling.{found_kept}
 use Rattle.lower.proofs.references.Calling.{has_above, has_below, has_more, has_words, longer, number_near}
 use Rattle.lower.proofs.references.Calling.{part_low}
 use Rattle.lower.proofs.references.Calling.{small_number, word_here, word_near, word_other}
+use Rattle.lower.proofs.references.CellSteps.{in_bounds}
 use Rattle.lower.specs.CallLaws.{CallsAt, AtArgument, CastInTurn, Stretch, where_comes}
 use Rattle.rt_cast.specs.ComposeCodes.{cast_place}
 
@@ -143,7 +144,7 @@ module _ {V : Type 0} (reading : Halt → Ending V) (setting : Setting) (l : Lay
           let last : ReachedIn w End (st (around t) 13 locals2 (CallAt 12 (Word 10)
           (Word 8 ∷ argument_words number 0) (TailCall (cast first) (Word 12 ∷ Word 11 ∷ []))) rests s.waiting h) =
           arrives w (λ room asked. (
-            record { room = room; asked = asked },
+            in_bounds room asked,
             record {
               new = objects;
               grows = grows;
@@ -198,11 +199,10 @@ module _ {V : Type 0} (reading : Halt → Ending V) (setting : Setting) (l : Lay
         pub gives : o ≡ Gives value
         pub new : List Object
         pub grows : Grows objects new
-        pub heap : Heap
-        pub fine : Fine setting l (around t) new heap
+        pub fine : Fine setting l (around t) new (heap_of u)
         pub word : ℕ
         pub carried : CarriedBy l IsHeld new value word
-        pub is : u ≡ top (set_local (suc k) word locals) (Done ∷ rests) j (suc k) heap
+        pub is : u ≡ top (set_local (suc k) word locals) (Done ∷ rests) j (suc k) (heap_of u)
 
       -- or it has blamed
       abbrev OneCast : LowState → List Object → Locals → List Code → ℕ → ℕ → Outcome A → LowState → Type 0
@@ -245,13 +245,12 @@ module _ {V : Type 0} (reading : Halt → Ending V) (setting : Setting) (l : Lay
               → Fine setting l (around t) new h' → CarriedBy l IsHeld new y x
               → ReachedIn w End (top (set_local (suc k) x l11) (Done ∷ rests) j (suc k) h')
           values y e new h' x grows fine' hx = arrives w (λ room asked. (
-            record { room = room; asked = asked },
+            in_bounds room asked,
             inl (record {
               value = y;
               gives = e;
               new = new;
               grows = grows;
-              heap = h';
               fine = fine';
               word = x;
               carried = hx;
@@ -264,7 +263,7 @@ module _ {V : Type 0} (reading : Halt → Ending V) (setting : Setting) (l : Lay
           blames label e =
               λ new h' count locals2 rests2 waiting a b d2 e2 rest grows fine' ea eb ld2 le2.
               arrives w (λ room asked. (
-                record { room = room; asked = asked },
+                in_bounds room asked,
                 inr (
                   label,
                   e,
@@ -302,7 +301,7 @@ module _ {V : Type 0} (reading : Halt → Ending V) (setting : Setting) (l : Lay
           → Stretch reading setting l t (cast_cost l.width l.tallest + 4) deep asks price
           (OneCast t objects locals rests j k o)
           → ((x : LowState) (c : IsCast t objects locals rests j k o x)
-          → Later c.value (top (set_local (suc k) c.word locals) (Done ∷ rests) j (suc k) c.heap))
+          → Later c.value (top (set_local (suc k) c.word locals) (Done ∷ rests) j (suc k) (heap_of x)))
           → Stretch reading setting l t (cast_cost l.width l.tallest + 4) deep asks price
           (λ x. where_comes o (λ v. Later v x) (λ label. BlamesAt l setting s IsHeld before label x))
       one_then t objects locals rests j k o since asks price Later z again = (
@@ -408,8 +407,10 @@ module _ {V : Type 0} (reading : Halt → Ending V) (setting : Setting) (l : Lay
                 let le : 0 + length done < suc k = omega (arith, long) in
                 let count : 0 + length done ≡ k = omega (arith, long) in
                 arguments_cast_in_turn j (suc k) (omega (arith, sum)) ds us ws (omega (arith, many)) casts.1
-                (pre ++ c.value ∷ []) (done ++ c.word ∷ []) (longer done c.word ∙ ap suc long) c.new c.heap
-                (fine_since setting l s t since c.new c.heap c.fine) (grows_on before objects c.new grows c.grows) l1
+                (pre ++ c.value ∷ []) (done ++ c.word ∷ []) (longer done c.word ∙ ap suc long) c.new
+                (heap_of x)
+                (fine_since setting l s t since c.new (heap_of x) c.fine) (grows_on before objects c.new grows c.grows)
+                l1
                 (Done ∷ rests)
                 (found_kept (suc k) c.word l11 number function coercion address
                 (eq_false 7 (suc k) (λ q. omega (arith, q, small))) (eq_false 8 (suc k) (λ q. omega (arith, q, small)))

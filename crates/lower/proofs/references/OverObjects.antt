@@ -1,6 +1,6 @@
 -- The laws of calls, reads and writes, where what stands under a proxy is known by its address.
 use Rattle.std.proofs.Common.{◌≡◌, ℕ, ◌+◌, ◌*◌, ◌≤◌, false, List, [], ◌∷◌, length, Some, refl, sym, subst}
-use Rattle.std.specs.Prelude.{◌==◌, slice_get}
+use Rattle.std.specs.Prelude.{◌==◌}
 use Rattle.grift_base.specs.Types.{TypeHead, IntHead}
 use Rattle.grift_base.specs.declared.verdicts.Trap.TheVariants.{Index}
 use Rattle.run_laws.specs.Runs.{Ending, Exhausted}
@@ -8,37 +8,26 @@ use Rattle.machine_words.specs.Halts.{Halt, Lacks, Region}
 use Rattle.low_ir.specs.Run.{Setting, Waiting, LowState}
 use Rattle.type_graph.specs.declared.tables.TheConstants.{MOST_HEIGHT}
 use Rattle.coercion_norm.specs.Coercions.{Coercion}
-use Rattle.coercion_norm.specs.MergedMode.{function_parts}
 use Rattle.coercion_norm.specs.Objects.{Object, Fixed}
 use Rattle.coercion_norm.specs.Held.{Layout, There}
 use Rattle.rt_cast.specs.Costs.{cast_cost}
 use Rattle.rt_cast.specs.LightCasts.{cast_words_of, cast_price_of}
 use Rattle.rt_cast.specs.ComposeCodes.{cast}
-use Rattle.rt_cast.specs.MergedValues.{Merged, Proxied, Outcome, Stuck, Blames, cast_value}
-use Rattle.rt_cast.specs.Carried.{IsVery, Carries, AreCarried, ComesTo}
+use Rattle.rt_cast.specs.MergedValues.{Merged, Outcome, Stuck, cast_value}
+use Rattle.rt_cast.specs.Carried.{IsVery, Carries}
 use Rattle.rt_cast.specs.States.{Filled, IsReady, heap_of}
 use Rattle.rt_cast.proofs.Public.{very_still}
-use Rattle.rt_refs.specs.CallCodes.{apply_proc}
 use Rattle.rt_refs.specs.CellCodes.{read_proc, write_proc}
-use Rattle.rt_refs.specs.Arguments.{handed}
-use Rattle.lower.specs.CallLaws.{ComesToCall, GoesOnTo, Resumes}
-use Rattle.lower.specs.CellLaws.{cell_behind, under, CellStands, CellInRegion, TrapsAt, TellsAt, WriteComes}
-use Rattle.lower.specs.CellLaws.{ComesWhere, ComesWriting}
+use Rattle.lower.specs.CallLaws.{GoesOnTo, Resumes}
+use Rattle.lower.specs.CellLaws.{under, CellStands, CellInRegion, TrapsAt, TellsAt}
+use Rattle.lower.specs.CellLaws.{ComesWhere}
 use Rattle.lower.proofs.references.Applying.{calls_through_proxies, answers_cast}
 use Rattle.lower.proofs.references.Reading.{reads, outside_reads, lengths}
 use Rattle.lower.proofs.references.Writing.{writes, writes_blamed, outside_writes}
+use Rattle.lower.specs.ReferenceLaws.{CallsAreMade, ElementsAreRead, ElementsAreWritten, BoxWritesAreBlamed}
 
 module _ {V : Type 0} where
-  pub calls_are_made : (reading : Halt → Ending V) (setting : Setting) (l : Layout) (first : ℕ) (s : LowState)
-      → reading (Lacks Region) ≡ Exhausted → IsReady setting l first → l.tallest ≤ MOST_HEIGHT
-      → (objects : List Object) → Filled setting l objects (heap_of s)
-      → (heads : ℕ → ℕ → TypeHead) (f : ℕ) (c : Coercion) (ds : List Coercion) (e : Coercion)
-      → function_parts c ≡ Some (ds, e) → (us : List (Merged ℕ)) (wv : ℕ) (ws : List ℕ)
-      → Carries l objects (Proxied f c) wv → AreCarried l (IsVery l) objects us ws → length us ≤ 6
-      → length ds ≡ length us → (head address : ℕ) (rest : List ℕ)
-      → There l objects f (Fixed head (address ∷ rest))
-      → ComesToCall reading setting l first s (IsVery l) objects heads (apply_proc (cast first)) (handed wv ws) f
-      address e ds us
+  pub calls_are_made : CallsAreMade V
   calls_are_made reading setting l first s exhausts ready low objects filled heads f c ds e split us wv ws hv hu few
       many head address rest there =
       calls_through_proxies reading setting l first s exhausts ready heads (IsVery l)
@@ -59,16 +48,7 @@ module _ {V : Type 0} where
       low objects filled head w c resumes u wv hv r
       e some
 
-  pub elements_are_read : (reading : Halt → Ending V) (setting : Setting) (l : Layout) (first : ℕ) (s : LowState)
-      → reading (Lacks Region) ≡ Exhausted → IsReady setting l first → l.tallest ≤ MOST_HEIGHT
-      → (objects : List Object) → Filled setting l objects (heap_of s) → (head : ℕ → TypeHead) (u : Merged ℕ)
-      (wv : ℕ) → Carries l objects u wv → (a : ℕ) (d : Coercion) → cell_behind 0 u ≡ Some (a, d) → (ws : List ℕ)
-      → CellStands l objects s.memory a ws → (which i word : ℕ) → (which == 2) ≡ false → slice_get ws i ≡ Some word
-      → (x : Merged ℕ) → Carries l objects x word → (r : Outcome ℕ) → cast_value head l.types d x ≡ r
-      → (r ≡ Stuck → ⊥)
-      → ComesWhere reading setting l s (read_proc (cast first)) (which ∷ wv ∷ i ∷ [])
-      (ComesTo l setting s (IsVery l) objects r) (cast_cost l.width l.tallest + 17) (4 * l.tallest + 6)
-      (cast_words_of l d x) (cast_price_of l d x + 148)
+  pub elements_are_read : ElementsAreRead V
   elements_are_read reading setting l first s exhausts ready low objects filled head u wv hv a d behind ws cell which i
       word other got x hx r e some =
       reads reading setting l first s exhausts ready head (IsVery l) (λ old new g a w h. very_still reading setting l
@@ -101,16 +81,7 @@ module _ {V : Type 0} where
       lengths reading setting l first s exhausts ready (IsVery l) objects filled ws u wv hv a stands
       (λ wa h. subst (λ n. CellStands l objects s.memory n ws) (sym h.is) cell) i
 
-  pub elements_are_written : (reading : Halt → Ending V) (setting : Setting) (l : Layout) (first : ℕ) (s : LowState)
-      → reading (Lacks Region) ≡ Exhausted → IsReady setting l first → l.tallest ≤ MOST_HEIGHT
-      → (objects : List Object) → Filled setting l objects (heap_of s) → l.region ≡ setting.region
-      → (head : ℕ → TypeHead) (u : Merged ℕ) (wv : ℕ) → Carries l objects u wv → (a : ℕ) (d : Coercion)
-      → cell_behind 1 u ≡ Some (a, d) → (ws : List ℕ) → CellInRegion l objects s.memory a ws
-      → (which i word old : ℕ) → slice_get ws i ≡ Some old → (x : Merged ℕ) → Carries l objects x word
-      → (r : Outcome ℕ) → cast_value head l.types d x ≡ r → (r ≡ Stuck → ⊥)
-      → ComesWriting reading setting l s (write_proc (cast first)) (which ∷ wv ∷ i ∷ word ∷ [])
-      (WriteComes setting l s (IsVery l) objects a i r) (cast_cost l.width l.tallest + 18) (4 * l.tallest + 7)
-      (cast_words_of l d x) (cast_price_of l d x + 147)
+  pub elements_are_written : ElementsAreWritten V
   elements_are_written reading setting l first s exhausts ready low objects filled begins head u wv hv a d behind ws
       cell which i word old got x hx r e some =
       writes reading setting l first s exhausts ready head (IsVery l) (λ old new g a w h. very_still reading setting l
@@ -119,15 +90,7 @@ module _ {V : Type 0} where
       (λ wa h. subst (λ n. CellInRegion l objects s.memory n ws) (sym h.is) cell) d behind which i word old got x hx r e
       some
 
-  pub box_writes_are_blamed : (reading : Halt → Ending V) (setting : Setting) (l : Layout) (first : ℕ) (s : LowState)
-      → reading (Lacks Region) ≡ Exhausted → IsReady setting l first → l.tallest ≤ MOST_HEIGHT
-      → (objects : List Object) → Filled setting l objects (heap_of s) → l.region ≡ setting.region
-      → (head : ℕ → TypeHead) (u : Merged ℕ) (wv : ℕ) → Carries l objects u wv → (a : ℕ) (d : Coercion)
-      → cell_behind 1 u ≡ Some (a, d) → (ws : List ℕ) → CellInRegion l objects s.memory a ws → (i word : ℕ)
-      (x : Merged ℕ) → Carries l objects x word → (label : ℕ) → cast_value head l.types d x ≡ Blames label
-      → ComesWriting reading setting l s (write_proc (cast first)) (0 ∷ wv ∷ i ∷ word ∷ [])
-      (WriteComes setting l s (IsVery l) objects a i (Blames label)) (cast_cost l.width l.tallest + 18)
-      (4 * l.tallest + 7) (cast_words_of l d x) (cast_price_of l d x + 147)
+  pub box_writes_are_blamed : BoxWritesAreBlamed V
   box_writes_are_blamed reading setting l first s exhausts ready low objects filled begins head u wv hv a d behind ws
       cell i word x hx label e =
       writes_blamed reading setting l first s exhausts ready head (IsVery l) (λ old new g a w h. very_still reading

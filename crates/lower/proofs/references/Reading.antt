@@ -30,7 +30,7 @@ use Rattle.rt_cast.proofs.Public.{decided_cast, ends, kind_read, count_read, non
 use Rattle.rt_cast.proofs.Public.{header_there, loads}
 use Rattle.rt_refs.specs.CellCodes.{read_code, read_proc, test_index, take_part, find_element}
 use Rattle.lower.specs.CellLaws.{under, cell_behind, CellStands, TrapsAt, TellsAt, ComesWhere}
-use Rattle.lower.proofs.references.CellSteps.{cell_word, in_list}
+use Rattle.lower.proofs.references.CellSteps.{cell_word, in_list, in_bounds}
 use Rattle.low_ir.specs.Operations.{compute}
 use Rattle.low_ir.specs.declared.code.WordOp.TheVariants.{Srl}
 use Rattle.low_ir.specs.Procedures.{Compute}
@@ -159,7 +159,7 @@ module _ {V : Type 0} (reading : Halt → Ending V) (setting : Setting) (l : Lay
       let last : ReachedIn q End (st (around s) 6 (set_local 4 (length ws) locals) (Return (Word 4)) rests s.waiting
       (heap_of s)) =
       arrives q (λ room asked. (
-        record { room = room; asked = asked },
+        in_bounds room asked,
         record { fine = fine_here; source = Word 4; code = refl; is = refl; waits = refl; same = refl },
       )) in
       at_most q

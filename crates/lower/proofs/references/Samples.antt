@@ -18,6 +18,7 @@ use Rattle.low_ir.specs.Steps.{no_locals, store_words}
 use Rattle.low_ir.specs.Run.{Setting, LowState, low_machine}
 use Rattle.rt_cast.specs.Procs.{cast_procs}
 use Rattle.rt_refs.specs.RefProcs.{ref_procs}
+use Rattle.lower.proofs.words.Steps.{at}
 
 stops : Halt → Ending Halt
 stops h = Verdict h
@@ -55,14 +56,7 @@ setting = record {
 
 start : WorldState → Code → LowState
 unfolding memory
-start world code = record {
-  active = record { count = 12; locals = no_locals; code = code; rests = [] };
-  waiting = [];
-  memory = memory;
-  alloc = 65672;
-  world = world;
-  words = 0;
-}
+start world code = at world (record { memory = memory; alloc = 65672; words = 0 }) [] 12 [] no_locals code
 
 -- a run ends so
 abbrev EndsAs : WorldState → Code → ℕ → Halt → Type 0

@@ -18,9 +18,8 @@ use Rattle.rt_cast.specs.WholeObjects.{IsSolid}
 use Rattle.rt_cast.specs.Costs.{cast_cost}
 use Rattle.rt_cast.specs.LightCasts.{cast_words_of, cast_price_of}
 use Rattle.rt_cast.specs.ComposeCodes.{cast}
-use Rattle.low_ir.specs.Frames.{waiting_room}
 use Rattle.rt_cast.specs.Procs.{cast_proc}
-use Rattle.rt_cast.specs.States.{Grows, Heap, Fine, Filled, IsReady, Within, around, heap_of, st}
+use Rattle.rt_cast.specs.States.{Grows, Heap, Fine, Filled, IsReady, around, heap_of, st}
 use Rattle.rt_cast.specs.MergedValues.{Merged, Outcome, Stuck, Gives, Blames, cast_value}
 use Rattle.rt_cast.specs.Carried.{CarriedBy}
 use Rattle.rt_cast.proofs.Public.{arrives, counted, blames_at}
@@ -29,7 +28,7 @@ use Rattle.rt_cast.proofs.Public.{ReachedIn, at_first, walk, holds_stored, holds
 use Rattle.rt_refs.specs.CellCodes.{write_code, write_proc, write_element, test_index, find_element}
 use Rattle.lower.specs.CellLaws.{cell_behind, under, CellStands, CellInRegion, TrapsAt, WriteComes}
 use Rattle.lower.specs.CellLaws.{OnTheWayWriting, ComesWhere, ComesWriting}
-use Rattle.lower.proofs.references.CellSteps.{in_list, stores, may_be_stored}
+use Rattle.lower.proofs.references.CellSteps.{in_list, stores, may_be_stored, in_bounds}
 use Rattle.lower.proofs.references.Calling.{cast_behind, Goes}
 use Rattle.machine_words.specs.Memory.{store_bytes}
 use Rattle.machine_words.proofs.Public.{stored_outside}
@@ -65,15 +64,8 @@ module _ {V : Type 0} (reading : Halt → Ending V) (setting : Setting) (l : Lay
 
   -- the walk of a procedure that may change what was there
   abbrev writing : ℕ → (LowState → Type 0) → Walk V
-  writing asks Q = record {
-    reading = reading;
-    setting = setting;
-    l = l;
-    around = around s;
+  writing asks Q = record (walk reading setting l first s exhausts ready Q (4 * l.tallest + 7) asks) {
     P = OnTheWayWriting setting l s (4 * l.tallest + 7) asks;
-    Q = λ t. Within s (4 * l.tallest + 7) asks t × Q t;
-    room = waiting_room s.waiting + 25 * (4 * l.tallest + 7 + 1);
-    most = s.words + asks;
     calm = λ active waiting h objects fine turns few asked. record {
       objects = objects;
       filled = fine.filled;
@@ -82,11 +74,6 @@ module _ {V : Type 0} (reading : Halt → Ending V) (setting : Setting) (l : Lay
       asked = asked;
       turns = turns;
     };
-    exhausts = exhausts;
-    placed = ready.placed;
-    first = first;
-    stands = ready.stand;
-    types = ready.types;
   }
 
   module _ (asks i : ℕ) (inside : i < length ws) (r : Outcome A) (y : Merged A) (q : r ≡ Gives y) (new : List Object)
@@ -127,7 +114,7 @@ module _ {V : Type 0} (reading : Halt → Ending V) (setting : Setting) (l : Lay
     written : (locals : Locals) (rests : List Code)
         → ReachedIn w End (st (around s) 6 locals (Return (Number 0)) rests s.waiting after)
     written locals rests = arrives w (λ room asked. (
-      record { room = room; asked = asked },
+      in_bounds room asked,
       subst (λ z. WriteComes setting l s IsHeld objects a i z
           (st (around s) 6 locals (Return (Number 0)) rests s.waiting after)) (sym q) (record {
             new = new;
@@ -192,7 +179,7 @@ module _ {V : Type 0} (reading : Halt → Ending V) (setting : Setting) (l : Lay
     blames label q =
         λ new h' count locals rests waiting aa b dd e' rest grows fine' ea eb ld le.
         arrives v (λ room asked. (
-          record { room = room; asked = asked },
+          in_bounds room asked,
           subst (λ y. WriteComes setting l s IsHeld objects a i y
               (st (around s) count locals (Environment 3 aa b dd e' rest) rests waiting h')) (sym q)
               (blames_at setting l s IsHeld objects label new h' count locals rests waiting aa b dd e' rest fine' ea

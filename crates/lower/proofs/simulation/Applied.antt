@@ -23,13 +23,13 @@ use Rattle.flat_ir.specs.Machine.{Locals as FlatLocals}
 use Rattle.lower.specs.declared.numbering.Shape.{Shape}
 use Rattle.low_ir.specs.Frames.{frame_room, waiting_room}
 use Rattle.rt_cast.specs.States.{Heap}
-use Rattle.lower.specs.Storage.{Filled}
 use Rattle.lower.specs.Numbering.{operand_word, test_word}
 use Rattle.lower.specs.Emit.{Then, ToCaller, Into, emit, call, call_by, is_sibling, found, found_all, apply_words}
 use Rattle.lower.specs.Emit.{source_at}
-use Rattle.lower.specs.CarriedValues.{AreCarried, CellsHeld}
+use Rattle.lower.specs.CarriedValues.{AreCarried}
 use Rattle.lower.specs.Relation.{Fits, NoCasts, pending_values}
 use Rattle.lower.specs.SchemeLaws.{Goes, Calls, Serves, at_or_zero, call_leaves}
+use Rattle.lower.proofs.words.Scene.{Fills, CellsStand}
 use Rattle.lower.proofs.heap.Objects.{none_some, same_some}
 use Rattle.lower.proofs.heap.CarriedLater.{as_many}
 use Rattle.lower.proofs.simulation.RelationKept.{SameNamed, rest_same, rest_branch}
@@ -105,9 +105,8 @@ all_plain_onto (v ∷ done) todo e = all_plain_onto done (plain v ∷ todo) (ref
 
 module _ (program : Program) (typed : TypesStand program.l)
     (f : FlatState program.meaning.Cast) (places : List ℕ) (objects : List Object) (h : Heap)
-    (filled : Filled program.meaning program.setting program.l program.number objects h)
-    (cells : CellsHeld program.l program.setting.address program.procs program.meaning places objects h.memory places
-    f.store) (waiting : List LowWaiting) (size : ℕ) (rests : List Code) (words : Locals) (s : Shape) (count depth : ℕ)
+    (filled : Fills program objects h) (cells : CellsStand program places objects h f.store)
+    (waiting : List LowWaiting) (size : ℕ) (rests : List Code) (words : Locals) (s : Shape) (count depth : ℕ)
     (group : Group program.meaning.Cast) (locals : FlatLocals program.meaning.Cast) (fo : Operand) (os : List Operand)
     (next : Then)
     (fits : Fits program.setting program.l program.run program.procs program.answer program.meaning places objects s

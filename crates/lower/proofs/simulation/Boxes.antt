@@ -44,7 +44,7 @@ use Rattle.flat_ir.specs.declared.code.Operation.TheVariants.{Prim}
 use Rattle.grift_base.specs.declared.operators.PrimOp.{PrimOp}
 use Rattle.grift_base.specs.declared.operators.PrimOp.TheVariants.{MakeBox, Unbox, BoxSet}
 use Rattle.low_ir.specs.Procedures.{Call}
-use Rattle.lower.proofs.words.Scene.{Scene}
+use Rattle.lower.proofs.words.Scene.{Scene, Fills, CellsStand}
 use Rattle.lower.proofs.words.Operands.{fetch_all_reads, ChangesFrom, both_words, found_all_same}
 use Rattle.lower.proofs.words.Operations.{Touches, not_computed, is_of_kind, added_there}
 use Rattle.lower.proofs.words.Groups.{storable}
@@ -53,7 +53,7 @@ use Rattle.lower.proofs.simulation.Way.{Program, Way, Follows, next_state, scene
 use Rattle.lower.proofs.simulation.Way.{asks_of, budget_of}
 use Rattle.lower.proofs.simulation.Gives.{CarriedHere, RestHere, CallersHere, given, word_for, code_for}
 use Rattle.lower.proofs.simulation.Gives.{Fitting, due_for}
-use Rattle.lower.proofs.simulation.Operations.{settle, room, put, due_little, giving}
+use Rattle.lower.proofs.simulation.Operations.{settle, put, due_little, giving}
 use Rattle.lower.proofs.simulation.Services.{kept_in_front}
 use Rattle.lower.proofs.simulation.Applied.{and_more_parts}
 use Rattle.lower.proofs.simulation.Parts.{one_word}
@@ -66,9 +66,8 @@ last_place (y ∷ xs) x (suc n) e = last_place xs x n (omega (arith, e))
 
 module _ (program : Program) (typed : TypesStand program.l)
     (f : FlatState program.meaning.Cast) (places : List ℕ) (objects : List Object) (h : Heap)
-    (filled : Filled program.meaning program.setting program.l program.number objects h)
-    (cells : CellsHeld program.l program.setting.address program.procs program.meaning places objects h.memory places
-    f.store) (waiting : List LowWaiting) (size : ℕ) (rests : List Code) (words : Locals) (s : Shape) (count depth : ℕ)
+    (filled : Fills program objects h) (cells : CellsStand program places objects h f.store)
+    (waiting : List LowWaiting) (size : ℕ) (rests : List Code) (words : Locals) (s : Shape) (count depth : ℕ)
     (group : Group program.meaning.Cast) (locals : FlatLocals program.meaning.Cast) (operation : Operation)
     (next : Then)
     (fits : Fits program.setting program.l program.run program.procs program.answer program.meaning places objects s

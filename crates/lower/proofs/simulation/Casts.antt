@@ -26,16 +26,14 @@ use Rattle.lower.specs.declared.served.Tag.{Tag}
 use Rattle.lower.specs.declared.served.CastWay.{CastWay}
 use Rattle.lower.specs.declared.served.CastWay.TheVariants.{Called, IntoDyn, OutOfDyn}
 use Rattle.rt_cast.specs.States.{Heap}
-use Rattle.lower.specs.Storage.{Filled}
 use Rattle.lower.specs.Numbering.{operand_word, test_word}
 use Rattle.lower.specs.CastWays.{tag_number, way_at, in_place}
 use Rattle.lower.specs.Emit.{Then, perform, found, cast_word, call_cast, make_cast}
-use Rattle.lower.specs.CarriedValues.{CellsHeld}
 use Rattle.lower.specs.Relation.{Fits, Falls}
 use Rattle.lower.proofs.heap.CarriedLater.{carried_small}
 use Rattle.lower.proofs.simulation.RelationKept.{word_here, word_other}
 use Rattle.lower.proofs.words.Arithmetic.{tag_small, tag_few, tag_added, tag_test, narrow_test}
-use Rattle.lower.proofs.words.Scene.{Scene}
+use Rattle.lower.proofs.words.Scene.{Scene, Fills, CellsStand}
 use Rattle.lower.proofs.words.Credits.{by_now, by_more}
 use Rattle.lower.proofs.words.Steps.{at, Comes, Calm, Goal, left_of, computes, computes_first}
 use Rattle.low_ir.specs.Prices.{code_price, codes_price, step_price}
@@ -83,9 +81,8 @@ as_it_was program f base = (refl, omega arith)
 
 module _ (program : Program) (typed : TypesStand program.l)
     (f : FlatState program.meaning.Cast) (places : List ℕ) (objects : List Object) (h : Heap)
-    (filled : Filled program.meaning program.setting program.l program.number objects h)
-    (cells : CellsHeld program.l program.setting.address program.procs program.meaning places objects h.memory places
-    f.store) (waiting : List LowWaiting) (size : ℕ) (rests : List Code) (words : Locals) (s : Shape) (count depth : ℕ)
+    (filled : Fills program objects h) (cells : CellsStand program places objects h f.store)
+    (waiting : List LowWaiting) (size : ℕ) (rests : List Code) (words : Locals) (s : Shape) (count depth : ℕ)
     (group : Group program.meaning.Cast) (locals : FlatLocals program.meaning.Cast) (o : Operand) (number : ℕ)
     (next : Then)
     (fits : Fits program.setting program.l program.run program.procs program.answer program.meaning places objects s
@@ -251,12 +248,13 @@ module _ (program : Program) (typed : TypesStand program.l)
                   program.number w t) (sym cost_is) z.1)),
             ))
 
-      into_dyn : (tag : Tag) → way ≡ IntoDyn tag
-          → Calls
-          (at f.world h waiting size rests new (make_cast program.run s d a number (IntoDyn tag) k))
+      -- where the code of a way begins
+      abbrev made : CastWay → LowState
+      made z = at f.world h waiting size rests new (make_cast program.run s d a number z k)
+
+      into_dyn : (tag : Tag) → way ≡ IntoDyn tag → Calls (made (IntoDyn tag))
       into_dyn tag is_so =
-          some_calls program typed f floor have 174 (casts_to (Some c)) w
-          (at f.world h waiting size rests new (make_cast program.run s d a number (IntoDyn tag) k))
+          some_calls program typed f floor have 174 (casts_to (Some c)) w (made (IntoDyn tag))
           (computes_first program.setting P Q calm y 3 up is refl refl (omega (arith, wide))
           (computes program.setting P Q calm up 3 back (word_here t up new) refl refl (omega (arith, wide))
           (by_width (is_narrow y) refl)))
@@ -306,12 +304,9 @@ module _ (program : Program) (typed : TypesStand program.l)
               if_false program.setting P Q calm back y (word_here u back first) (stays second more)
               (narrow_test y small ∙ q) (other second more)
 
-      out_of_dyn : (tag : Tag) → way ≡ OutOfDyn tag
-          → Calls
-          (at f.world h waiting size rests new (make_cast program.run s d a number (OutOfDyn tag) k))
+      out_of_dyn : (tag : Tag) → way ≡ OutOfDyn tag → Calls (made (OutOfDyn tag))
       out_of_dyn tag is_so =
-          some_calls program typed f floor have 174 (casts_to (Some c)) w
-          (at f.world h waiting size rests new (make_cast program.run s d a number (OutOfDyn tag) k))
+          some_calls program typed f floor have 174 (casts_to (Some c)) w (made (OutOfDyn tag))
           (computes_first program.setting P Q calm y 7 bits is refl refl (omega (arith, wide))
           (by_tag (y % 8 == tag_number tag) refl))
         where
@@ -338,8 +333,7 @@ module _ (program : Program) (typed : TypesStand program.l)
               if_false program.setting P Q calm bits (tag_number tag % 2 ^ 64) (word_here (test_word s) bits new) refl
               (tag_test y tag ∙ q) (other last more)
 
-      by_way : (z : CastWay) → way ≡ z
-          → Calls (at f.world h waiting size rests new (make_cast program.run s d a number z k))
+      by_way : (z : CastWay) → way ≡ z → Calls (made z)
       by_way Called q = calls 0 (omega arith) k rests (refl, refl) y new carried is touched
       by_way (IntoDyn tag) q = into_dyn tag q
       by_way (OutOfDyn tag) q = out_of_dyn tag q

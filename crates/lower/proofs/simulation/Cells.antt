@@ -21,13 +21,13 @@ use Rattle.flat_ir.specs.Machine.{FlatValue, FlatAfter, FlatState, Group, values
 use Rattle.flat_ir.specs.Machine.{Locals as FlatLocals}
 use Rattle.lower.specs.declared.numbering.Shape.{Shape}
 use Rattle.rt_cast.specs.States.{Heap}
-use Rattle.lower.specs.Storage.{Filled}
 use Rattle.lower.specs.Numbering.{operand_word, test_word}
 use Rattle.lower.specs.Emit.{Then, found_all, fetch_all, source_at, of_kind}
-use Rattle.lower.specs.CarriedValues.{AreCarried, CellsHeld}
+use Rattle.lower.specs.CarriedValues.{AreCarried}
 use Rattle.lower.specs.Relation.{Fits, Falls}
 use Rattle.lower.specs.SimulationServices.{StandsAs}
 use Rattle.lower.specs.SchemeLaws.{After, Goes, Returns, OperatorDone, IsHandedOn, at_or_zero, operator_leaves}
+use Rattle.lower.proofs.words.Scene.{Fills, CellsStand}
 use Rattle.lower.proofs.words.Steps.{at}
 use Rattle.low_ir.specs.Prices.{code_price, codes_price}
 use Rattle.std.proofs.Common.{◌*◌}
@@ -61,9 +61,8 @@ pub data OnBoxes : PrimOp → Type 0 where
 
 module _ (program : Program) (typed : TypesStand program.l)
     (f : FlatState program.meaning.Cast) (places : List ℕ) (objects : List Object) (h : Heap)
-    (filled : Filled program.meaning program.setting program.l program.number objects h)
-    (cells : CellsHeld program.l program.setting.address program.procs program.meaning places objects h.memory places
-    f.store) (waiting : List LowWaiting) (size : ℕ) (rests : List Code) (words : Locals) (s : Shape) (count depth : ℕ)
+    (filled : Fills program objects h) (cells : CellsStand program places objects h f.store)
+    (waiting : List LowWaiting) (size : ℕ) (rests : List Code) (words : Locals) (s : Shape) (count depth : ℕ)
     (group : Group program.meaning.Cast) (locals : FlatLocals program.meaning.Cast) (operator : PrimOp)
     (os : List Operand) (next : Then)
     (fits : Fits program.setting program.l program.run program.procs program.answer program.meaning places objects s

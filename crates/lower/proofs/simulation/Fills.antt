@@ -23,6 +23,7 @@ use Rattle.coercion_norm.specs.Held.{Layout}
 use Rattle.coercion_norm.proofs.Public.{last_stands}
 use Rattle.flat_ir.specs.Bodies.{Proc}
 use Rattle.flat_ir.specs.FlatTally.{operator_cost}
+use Rattle.coer_core.specs.TurnPrices.{kind_cost}
 use Rattle.cast_modes.specs.Prices.{Cost}
 use Rattle.flat_ir.specs.Machine.{FlatValue, FlatFrame, FlatStore, FlatAfter, flat_operate}
 use Rattle.low_ir.specs.Frames.{stack_room, frame_room, waiting_room}
@@ -66,6 +67,19 @@ pub record LetsFill (meaning : Meaning) (l : Layout) (casts : List TypeCast) (m 
   pub budget : (n : ℕ)
       → 61 * n + 124 + operator_leaves ≤ ((meaning.prices l.types casts m).other (Some (MakesVector n)) 0 0).budget
   pub traps : 14 ≤ ((meaning.prices l.types casts m).other (Some Acts) 0 0).budget
+
+-- it does where these turns cost what their kinds tell
+pub plainly_lets : (meaning : Meaning) (l : Layout) (casts : List TypeCast) (m : Measures) → 1 ≤ meaning.serving l
+    → ((n : ℕ) → (meaning.prices l.types casts m).other (Some (MakesVector n)) 0 0
+    ≡ kind_cost m (Some (MakesVector n)) 0 0)
+    → (meaning.prices l.types casts m).other (Some Acts) 0 0 ≡ kind_cost m (Some Acts) 0 0
+    → LetsFill meaning l casts m
+plainly_lets meaning l casts m serves vectors acts = record {
+  serving = serves;
+  asks = λ n. let e = ap (λ c. c.asks) (vectors n) in omega (arith, e);
+  budget = λ n. let e = ap (λ c. c.budget) (vectors n) in omega (arith, e);
+  traps = let e = ap (λ c. c.budget) acts in omega (arith, e);
+}
 
 module _ (meaning : Meaning) (laws : MeaningLaws meaning) (setting : Setting) (l : Layout) (procs : List Proc)
     (casts : List TypeCast) (m : Measures) (lets : LetsFill meaning l casts m) (placed : Placed setting l)

@@ -449,6 +449,11 @@ module _ (program : Program) (typed : TypesStand program.l) where
           abbrev OnValues : PrimOp → List Operand → List (FlatValue program.meaning.Cast) → Type 0
           OnValues op os vs = Placed op os (flat_operate program.procs (mode_of program) store world op vs frames)
 
+          -- whatever they are
+          abbrev OnTheirs : PrimOp → List Operand → Type 0
+          OnTheirs op os =
+              (vs : List (FlatValue program.meaning.Cast)) → values locals group os ≡ vs → OnValues op os vs
+
           -- a procedure of the scheme does it, where the first is a box in a wrapper
           in_wrapper : (op : PrimOp) (os : List Operand) → OnBoxes op
               → FitsHere s count size group depth locals words (Give (Prim op os))
@@ -511,10 +516,8 @@ module _ (program : Program) (typed : TypesStand program.l) where
           reads_box : (os : List Operand) → Run (Give (Prim Unbox os))
           reads_box os fits rest = by_values (values locals group os) refl
             where
-              by_values : (vs : List (FlatValue program.meaning.Cast)) → values locals group os ≡ vs
-                  → OnValues Unbox os vs
-              by_values (RunWrap u c ∷ others) e =
-                  in_wrapper Unbox os OnUnbox fits rest u c others e
+              by_values : OnTheirs Unbox os
+              by_values (RunWrap u c ∷ others) e = in_wrapper Unbox os OnUnbox fits rest u c others e
               by_values (RunLoc cell false ∷ []) e = by_content (slice_get store cell) refl
                 where
                   one : (o : Operand) × (os ≡ o ∷ []) × (value locals group o ≡ RunLoc cell false)
@@ -546,10 +549,8 @@ module _ (program : Program) (typed : TypesStand program.l) where
           writes_box : (os : List Operand) → Run (Give (Prim BoxSet os))
           writes_box os fits rest = by_values (values locals group os) refl
             where
-              by_values : (vs : List (FlatValue program.meaning.Cast)) → values locals group os ≡ vs
-                  → OnValues BoxSet os vs
-              by_values (RunWrap u c ∷ others) e =
-                  in_wrapper BoxSet os OnBoxSet fits rest u c others e
+              by_values : OnTheirs BoxSet os
+              by_values (RunWrap u c ∷ others) e = in_wrapper BoxSet os OnBoxSet fits rest u c others e
               by_values (RunLoc cell false ∷ v ∷ []) e = by_content (slice_get store cell) refl
                 where
                   two : (o p : Operand) × (os ≡ o ∷ p ∷ []) × (value locals group o ≡ RunLoc cell false)

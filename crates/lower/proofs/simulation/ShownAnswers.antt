@@ -40,7 +40,7 @@ use Rattle.coercion_norm.specs.ObjectsOfRows.{header, type_kind}
 use Rattle.lower.specs.Lowered.{show_kept, open_object, open_small}
 use Rattle.object_layout.specs.Words.{kind_mask}
 use Rattle.rt_cast.specs.DynWords.{small_dyn, IsDynBy}
-use Rattle.rt_cast.proofs.Public.{SmallIs, small_is, tag_read, no_tag, untagged, eq_false}
+use Rattle.rt_cast.proofs.Public.{SmallIs, small_is, tag_read, no_tag, untagged, eq_false, type_numbers}
 use Rattle.lower.proofs.heap.Objects.{dyn_header}
 use Rattle.lower.proofs.heap.Filled.{stands, word_there, header_there}
 use Rattle.lower.proofs.words.Steps.{Comes, Calm, Goal, here, loads, computes, if_true, if_false, falls_through}
@@ -267,16 +267,6 @@ module _ (program : Program) (typed : TypesStand program.l) (places : List ℕ) 
   kind_told : (k height n : ℕ) → k < 256 → compute And (k + height * 65536 + n * 4294967296) kind_mask ≡ k
   kind_told k height n lt = and_mask (k + height * 65536 + n * 4294967296) 8 ∙ omega arith
 
-  few_kinds : (row : TypeRow) → type_kind row < 256
-  few_kinds IntRow = omega arith
-  few_kinds BoolRow = omega arith
-  few_kinds UnitRow = omega arith
-  few_kinds DynRow = omega arith
-  few_kinds (FunRow parameters answer) = omega arith
-  few_kinds (TupleRow parts) = omega arith
-  few_kinds (RefRow content) = omega arith
-  few_kinds (VectRow content) = omega arith
-
   -- a value in Dyn
   shows_dyn : (u : FlatValue program.meaning.Cast) (kept w : ℕ)
       → CarriedHere program places objects (RunInject u kept) w
@@ -357,7 +347,8 @@ module _ (program : Program) (typed : TypesStand program.l) (places : List ℕ) 
           (subst (λ n. load_bytes 8 h.memory n ≡ head) none head_there.is) (let z = head_there.end in omega arith)
           (omega arith)
           (computes program.setting P Q (calm a) head kind_mask (type_kind row) (word_here 1 head one) refl
-          (kind_told (type_kind row) (height_in program.l kept) (length (parts_of row)) (few_kinds row)) (omega arith)
+          (kind_told (type_kind row) (height_in program.l kept) (length (parts_of row)) (type_numbers row))
+          (omega arith)
           (loads program.setting P Q (calm a) w c.0 same inner_there.may inner_there.is
           (let z = inner_there.end in omega arith) (omega arith)
           (opened (set_local 2 c.0 three)

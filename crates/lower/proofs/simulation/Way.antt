@@ -2,10 +2,9 @@
 use Rattle.std.proofs.Common.{◌≡◌, ◌⊎◌, inl, inr, ℕ, suc, ◌+◌, ◌*◌, ◌≤◌, List, [], ◌∷◌, length, Option, Some}
 use Rattle.std.proofs.Common.{Bool, false, arith, le_refl, refl}
 use Rattle.std.specs.Prelude.{if◌then◌else◌, ◌-◌}
-use Rattle.core_calc.specs.Account.{Measures, StepKind}
+use Rattle.core_calc.specs.Account.{StepKind}
 use Rattle.std.proofs.Common.{None}
-use Rattle.std.proofs.Common.{slice_get, true}
-use Rattle.grift_base.specs.Types.{TypeRow, row_at}
+use Rattle.std.proofs.Common.{true}
 use Rattle.grift_base.specs.World.{WorldState}
 use Rattle.grift_base.specs.declared.verdicts.Verdict.{Verdict}
 use Rattle.run_laws.specs.Runs.{Ending, Verdict as EndsWith, Exhausted, Wrong}
@@ -14,29 +13,23 @@ use Rattle.machine_words.specs.Halts.{ending_of}
 use Rattle.low_ir.specs.Prices.{code_price, codes_price, low_price, CostsAtMost}
 use Rattle.low_ir.specs.Procedures.{Code}
 use Rattle.low_ir.specs.Steps.{Locals}
-use Rattle.low_ir.specs.Run.{Setting, LowState, LowShown, Waiting as LowWaiting, low_machine}
-use Rattle.cast_modes.specs.AnswerTypes.{Told}
-use Rattle.cast_modes.specs.Modes.{Mode, TypeCast}
+use Rattle.low_ir.specs.Run.{LowState, LowShown, Waiting as LowWaiting, low_machine}
+use Rattle.cast_modes.specs.Modes.{Mode}
 use Rattle.cast_modes.specs.ValueSteps.{CastFrame, ProjFrame, PrimFrame, EnterFrame, OwnFrame, Own, Return, Entering}
-use Rattle.flat_ir.specs.Bodies.{Body, Give, Call, Choose, LetBody, LetGroup, Proc}
-use Rattle.flat_ir.specs.Closed.{each_closed}
+use Rattle.flat_ir.specs.Bodies.{Body, Give, Call, Choose, LetBody, LetGroup}
 use Rattle.flat_ir.specs.FlatTally.{flat_cost, flat_atoms}
 use Rattle.cast_modes.specs.Prices.{Cost, Prices}
 use Rattle.flat_ir.specs.Machine.{FlatFrame, FlatFocus, FlatAfter, FlatState, Inside, Waiting, after_flat, flat_turn}
 use Rattle.coercion_norm.specs.Objects.{Object}
-use Rattle.coercion_norm.specs.Held.{Layout}
 use Rattle.low_ir.specs.Frames.{frame_room, waiting_room, stack_room}
-use Rattle.rt_cast.specs.States.{Placed, Heap, heap_of}
+use Rattle.rt_cast.specs.States.{Heap, heap_of}
 use Rattle.lower.specs.Storage.{Filled}
-use Rattle.lower.specs.declared.served.Served.{Served}
-use Rattle.lower.specs.Lowered.{low_proc}
 use Rattle.lower.specs.Relation.{Related}
-use Rattle.lower.specs.Following.{Serving}
-use Rattle.lower.specs.SimulationClaims.{AreNarrow, AreCodeAddresses}
 use Rattle.lower.proofs.words.Credits.{By, by_more, by_now}
 use Rattle.lower.proofs.words.Steps.{Calm, Comes, Goal, at, left_of}
+pub use Rattle.lower.proofs.words.Scene.{Program}
 use Rattle.lower.proofs.words.Scene.{Scene}
-use Rattle.lower.specs.Meanings.{Meaning, MeaningLaws, is_last}
+use Rattle.lower.specs.Meanings.{is_last}
 
 -- ---- a measure that falls where the run over words may do nothing
 
@@ -68,30 +61,6 @@ abbrev pub size_of : {C : Type 0} → FlatState C → ℕ
 size_of f = unless_ended f.ended (focus_weight f.focus + frames_weight f.frames)
 
 -- ---- the program and where it runs
-
-pub record Program : Type 1 where
-  pub meaning : Meaning
-  pub laws : MeaningLaws meaning
-  -- the wrap steps so far
-  pub number : ℕ
-  pub setting : Setting
-  pub l : Layout
-  pub placed : Placed setting l
-  pub begins : l.region ≡ setting.region
-  pub run : Served
-  pub procs : List Proc
-  pub answer : TypeRow
-  pub casts : List TypeCast
-  pub measured : Measures
-  pub told : Told
-  pub answer_is : row_at told.types told.answer ≡ Some answer
-  pub labels_are : setting.labels ≡ told.labels
-  pub types_are : told.types ≡ l.types
-  pub stand : (k : ℕ) (p : Proc) → slice_get procs k ≡ Some p → slice_get setting.procs k ≡ Some (low_proc run p)
-  pub addresses : AreCodeAddresses setting.procs setting.address
-  pub closed : each_closed procs procs ≡ true
-  pub narrow : AreNarrow procs
-  pub serves : Serving meaning setting l procs casts measured run
 
 -- the mode in which casts are made
 abbrev pub mode_of : (program : Program) → Mode program.meaning.Cast
@@ -350,16 +319,7 @@ module _ (program : Program) where
       → Calm program.setting P Q count waiting world h)
       → Scene
   scene_with places P Q allowed room calm = record {
-    meaning = program.meaning;
-    laws = program.laws;
-    number = program.number;
-    setting = program.setting;
-    l = program.l;
-    placed = program.placed;
-    begins = program.begins;
-    run = program.run;
-    procs = program.procs;
-    answer = program.answer;
+    program = program;
     places = places;
     P = P;
     Q = Q;

@@ -24,7 +24,6 @@ use Rattle.rt_cast.specs.Objects.{HoldsWords}
 use Rattle.coercion_norm.specs.ObjectsOfRows.{header}
 use Rattle.low_ir.specs.Frames.{frame_room, waiting_room}
 use Rattle.rt_cast.specs.States.{Heap}
-use Rattle.lower.specs.Storage.{Filled}
 use Rattle.lower.specs.declared.numbering.Shape.{Shape}
 use Rattle.lower.specs.Numbering.{operand_word, test_word, local_word, function_offset, captured_offset}
 use Rattle.lower.specs.Emit.{found, store_far, store_captured, store_others, name_others, group_words}
@@ -38,7 +37,7 @@ use Rattle.lower.proofs.heap.CarriedLater.{as_many, carried_small, later, all_la
 use Rattle.lower.proofs.words.Arithmetic.{header_word, header_small}
 use Rattle.lower.proofs.words.Steps.{at, Calm, computes, stores, code_addresses, requests, takes, lt_true, le_true}
 use Rattle.lower.proofs.words.Steps.{le_false}
-use Rattle.lower.proofs.words.Scene.{Scene, Carries, CarryAll, Arrives}
+use Rattle.lower.proofs.words.Scene.{Scene, Carries, CarryAll, Arrives, Fills}
 use Rattle.lower.proofs.simulation.RelationKept.{word_here, word_other, Named, SameNamed, same_then, local_high, IsFree}
 use Rattle.lower.proofs.simulation.RelationKept.{Between}
 use Rattle.lower.proofs.simulation.RelationKept.{Behind, set_named, free_other, knows_same, OwnName, LowName, HighName}
@@ -58,10 +57,10 @@ even_bytes (o ∷ os) =
     size (Cell header count) = (1 + count, omega arith)
 
 module _ (scene : Scene) (world : WorldState) (h : Heap) (allowed : scene.allowed world h.words)
-    (objects : List Object)
-    (filled : Filled scene.meaning scene.setting scene.l scene.number objects h) (waiting : List Waiting) (size : ℕ)
+    (objects : List Object) (filled : Fills scene.program objects h) (waiting : List Waiting) (size : ℕ)
     (frames_fit : frame_room size + waiting_room waiting ≤ scene.room) (rests : List Code)
-    (s : Shape) (count : ℕ) (group : Group scene.meaning.Cast) (slot : ℕ) (locals : FlatLocals scene.meaning.Cast)
+    (s : Shape) (count : ℕ) (group : Group scene.program.meaning.Cast) (slot : ℕ)
+    (locals : FlatLocals scene.program.meaning.Cast)
     (params : s.params ≤ slot) (room : slot + 10 < size) (words : Locals)
     (knows : KnowsHere scene world h allowed objects filled waiting size frames_fit rests s count group slot locals
     words) where
@@ -84,7 +83,7 @@ module _ (scene : Scene) (world : WorldState) (h : Heap) (allowed : scene.allowe
   t_free = Between (omega arith) (omega arith)
 
   even : h.alloc % 8 ≡ 0
-  even = let z = even_bytes objects in omega (arith, z.1, filled.ends, scene.placed.even_region)
+  even = let z = even_bytes objects in omega (arith, z.1, filled.ends, scene.program.placed.even_region)
 
   -- the memory while the words of a group are stored: those behind the objects so far, and nothing else has changed
   pub record Stored (m : Memory) (ws : List ℕ) : Type 0 where
@@ -100,11 +99,13 @@ module _ (scene : Scene) (world : WorldState) (h : Heap) (allowed : scene.allowe
   On m new code = Arrives scene (at world (record h { memory = m }) waiting size rests new code)
 
   filled_by : (m : Memory) (ws : List ℕ) → Stored m ws
-      → Filled scene.meaning scene.setting scene.l scene.number objects (record h { memory = m })
-  filled_by m ws st = filled_above scene.meaning scene.setting scene.l scene.placed objects h m h.words filled st.below
+      → Fills scene.program objects
+      (record h { memory = m })
+  filled_by m ws st = filled_above scene.program.meaning scene.program.setting scene.program.l scene.program.placed
+      objects h m h.words filled st.below
 
   abbrev calm_by : (m : Memory) (ws : List ℕ) → Stored m ws
-      → Calm scene.setting scene.P scene.Q size waiting world (record h { memory = m })
+      → Calm scene.program.setting scene.P scene.Q size waiting world (record h { memory = m })
   calm_by m ws st =
       scene.calm world (record h { memory = m }) objects (filled_by m ws st) allowed size waiting frames_fit
 
@@ -129,7 +130,7 @@ module _ (scene : Scene) (world : WorldState) (h : Heap) (allowed : scene.allowe
   -- the next word is stored
   pub stores_far : (b : LowSource) (y offset : ℕ) (m : Memory) (ws : List ℕ) (new : Locals) (k : Code)
       → ((now : Locals) → Changes (test_word s) new now → word_of now b ≡ Some y) → y < 2 ^ 64 → Stored m ws
-      → Storing new → offset ≡ 8 * length ws → h.alloc + offset + 8 ≤ scene.setting.top
+      → Storing new → offset ≡ 8 * length ws → h.alloc + offset + 8 ≤ scene.program.setting.top
       → ((m' : Memory) (now : Locals) → Stored m' (ws ++ y ∷ []) → Storing now → Changes (test_word s) new now
       → On m' now k)
       → On m new (store_far (test_word s) (local_word s slot) b offset k)
@@ -138,13 +139,13 @@ module _ (scene : Scene) (world : WorldState) (h : Heap) (allowed : scene.allowe
       to : ℕ
       to = h.alloc + offset
 
-      may : may_store scene.setting.region scene.setting.top (h.alloc + offset) ≡ true
+      may : may_store scene.program.setting.region scene.program.setting.top (h.alloc + offset) ≡ true
       may =
-          storable scene.setting.region scene.setting.top (h.alloc + offset) (omega (arith, even, e))
-          (omega (arith, filled.ends, scene.begins)) fits
+          storable scene.program.setting.region scene.program.setting.top (h.alloc + offset) (omega (arith, even, e))
+          (omega (arith, filled.ends, scene.program.begins)) fits
 
       top : h.alloc + offset < 2 ^ 64
-      top = omega (arith, fits, scene.placed.top)
+      top = omega (arith, fits, scene.program.placed.top)
 
       by_size : (b' : Bool) → nat_lt offset 2048 ≡ b'
           → On m new (store_far (test_word s) (local_word s slot) b offset k)
@@ -152,7 +153,8 @@ module _ (scene : Scene) (world : WorldState) (h : Heap) (allowed : scene.allowe
           subst (λ c. On m new (if c then Store b (Word (local_word s slot)) offset k
           else Compute Plus (test_word s) (Word (local_word s slot)) (Number offset)
           (Store b (Word (test_word s)) 0 k))) (sym q)
-          (stores scene.setting scene.P scene.Q (calm_by m ws st) h.alloc y (is new (λ j ne. refl)) ing.place may top
+          (stores scene.program.setting scene.P scene.Q (calm_by m ws st) h.alloc y (is new (λ j ne. refl)) ing.place
+          may top
           (go (store_bytes 8 m (h.alloc + offset) y) new (stored_next m ws y (h.alloc + offset) small
           (ap (λ n. h.alloc + n) e) st) ing (λ j ne. refl)))
       by_size false q =
@@ -161,12 +163,13 @@ module _ (scene : Scene) (world : WorldState) (h : Heap) (allowed : scene.allowe
           subst (λ c. On m new (if c then Store b (Word (local_word s slot)) offset k
           else Compute Plus (test_word s) (Word (local_word s slot)) (Number offset)
           (Store b (Word (test_word s)) 0 k))) (sym q)
-          (computes scene.setting scene.P scene.Q (calm_by m ws st) h.alloc (offset % 2 ^ 64) (h.alloc + offset)
+          (computes scene.program.setting scene.P scene.Q (calm_by m ws st) h.alloc (offset % 2 ^ 64) (h.alloc + offset)
           ing.place refl (added h.alloc offset top) (omega (arith, room, params))
-          (stores scene.setting scene.P scene.Q (calm_by m ws st) (h.alloc + offset) y
+          (stores scene.program.setting scene.P scene.Q (calm_by m ws st) (h.alloc + offset) y
           (is now (λ j ne. word_other (test_word s) (h.alloc + offset) new j ne))
           (word_here (test_word s) (h.alloc + offset) new)
-          (subst (λ n. may_store scene.setting.region scene.setting.top n ≡ true) none may) (omega (arith, top))
+          (subst (λ n. may_store scene.program.setting.region scene.program.setting.top n ≡ true) none may)
+          (omega (arith, top))
           (go (store_bytes 8 m (h.alloc + offset + 0) y) now
           (stored_next m ws y (h.alloc + offset + 0) small (omega (arith, e)) st)
           (storing_set (test_word s) (h.alloc + offset) new t_free not_test ing)
@@ -175,21 +178,22 @@ module _ (scene : Scene) (world : WorldState) (h : Heap) (allowed : scene.allowe
   -- at a near place
   stores_at : (b : LowSource) (y offset : ℕ) (m : Memory) (ws : List ℕ) (new : Locals) (k : Code)
       → word_of new b ≡ Some y → y < 2 ^ 64 → Stored m ws → Storing new → offset ≡ 8 * length ws
-      → h.alloc + offset + 8 ≤ scene.setting.top
+      → h.alloc + offset + 8 ≤ scene.program.setting.top
       → ((m' : Memory) → Stored m' (ws ++ y ∷ []) → On m' new k)
       → On m new (Store b (Word (local_word s slot)) offset k)
   stores_at b y offset m ws new k is small st ing e fits go =
-      let may = storable scene.setting.region scene.setting.top (h.alloc + offset) (omega (arith, even, e))
-      (omega (arith, filled.ends, scene.begins)) fits in
-      stores scene.setting scene.P scene.Q (calm_by m ws st) h.alloc y is ing.place may
-      (omega (arith, fits, scene.placed.top))
+      let may = storable scene.program.setting.region scene.program.setting.top (h.alloc + offset)
+      (omega (arith, even, e))
+      (omega (arith, filled.ends, scene.program.begins)) fits in
+      stores scene.program.setting scene.P scene.Q (calm_by m ws st) h.alloc y is ing.place may
+      (omega (arith, fits, scene.program.placed.top))
       (go (store_bytes 8 m (h.alloc + offset) y) (stored_next m ws y (h.alloc + offset) small
       (ap (λ n. h.alloc + n) e) st))
 
   -- what is captured
   pub captured_stored : (os : List Operand) (i : ℕ) (m : Memory) (ws : List ℕ) (new : Locals) (k : Code)
       → operands_bound s.captured count slot os ≡ true → length ws ≡ 2 + i → Stored m ws → Storing new
-      → h.alloc + 16 + 8 * i + 8 * length os ≤ scene.setting.top
+      → h.alloc + 16 + 8 * i + 8 * length os ≤ scene.program.setting.top
       → ((cs : List ℕ) (m' : Memory) (now : Locals)
       → CarryAll scene objects (in_row (values locals group os)) cs → Stored m' (ws ++ cs) → Storing now → On m' now k)
       → On m new (store_captured s (local_word s slot) i os k)
@@ -202,7 +206,8 @@ module _ (scene : Scene) (world : WorldState) (h : Heap) (allowed : scene.allowe
       let hm : Heap = record h { memory = m } in
       fetch_reads scene world hm allowed objects (filled_by m ws st) waiting size frames_fit rests s count group slot
       locals o x both.0 (omega (arith, room, params)) new
-      (knows_same scene.setting scene.l scene.run scene.procs scene.answer scene.meaning scene.laws scene.places objects
+      (knows_same scene.program.setting scene.program.l scene.program.run scene.program.procs scene.program.answer
+      scene.program.meaning scene.program.laws scene.places objects
       s count
       group slot locals words new ing.same knows)
       (store_far (test_word s) (local_word s slot) (found s x o) (captured_offset i)
@@ -218,9 +223,11 @@ module _ (scene : Scene) (world : WorldState) (h : Heap) (allowed : scene.allowe
       found_same scene world hm allowed objects (filled_by m ws st) waiting size frames_fit rests s count group slot
       locals o x both.0 now last (λ j named. changed' j (free_other s slot (test_word s) j t_free named))
       (changed' x (λ e. omega (arith, e))) ∙ is)
-      (carried_small scene.l scene.setting.address scene.procs scene.meaning scene.laws scene.places objects
-      scene.setting
-      scene.placed h filled (value locals group o) w carried) st ing' (omega (arith, long)) (omega (arith, fits))
+      (carried_small scene.program.l scene.program.setting.address scene.program.procs scene.program.meaning
+      scene.program.laws scene.places objects
+      scene.program.setting
+      scene.program.placed h filled (value locals group o) w carried) st ing' (omega (arith, long))
+      (omega (arith, fits))
       (λ m' last st' ing'' changed'.
       captured_stored os (suc i) m' (ws ++ w ∷ []) last k both.1
       (length-append ws (w ∷ []) ∙ omega (arith, long)) st' ing'' (omega (arith, fits))
@@ -233,10 +240,12 @@ module _ (scene : Scene) (world : WorldState) (h : Heap) (allowed : scene.allowe
   -- the functions behind the first
   pub others_stored : (captured first i n : ℕ) (m : Memory) (ws : List ℕ) (new : Locals) (k : Code)
       → length ws ≡ 2 + captured + 2 * i → Stored m ws → Storing new
-      → h.alloc + 16 + 8 * captured + 16 * i + 16 * n ≤ scene.setting.top
-      → ((j : ℕ) → j < n → (p : Proc) × (slice_get scene.setting.procs (first + suc (i + j)) ≡ Some p))
-      → ((j : ℕ) (p : Proc) → slice_get scene.setting.procs j ≡ Some p → scene.setting.address j < 2 ^ 64)
-      → ((m' : Memory) (now : Locals) → Stored m' (ws ++ other_words scene.setting.address first i n) → Storing now
+      → h.alloc + 16 + 8 * captured + 16 * i + 16 * n ≤ scene.program.setting.top
+      → ((j : ℕ) → j < n → (p : Proc) × (slice_get scene.program.setting.procs (first + suc (i + j)) ≡ Some p))
+      → ((j : ℕ) (p : Proc) → slice_get scene.program.setting.procs j ≡ Some p
+      → scene.program.setting.address j < 2 ^ 64)
+      → ((m' : Memory) (now : Locals) → Stored m' (ws ++ other_words scene.program.setting.address first i n)
+      → Storing now
       → On m' now k)
       → On m new (store_others s (local_word s slot) captured first (suc i) n k)
   others_stored captured first i zero m ws new k long st ing fits procs small go =
@@ -244,7 +253,7 @@ module _ (scene : Scene) (world : WorldState) (h : Heap) (allowed : scene.allowe
   others_stored captured first i (suc n) m ws new k long st ing fits procs small go =
       let x = operand_word s 0 in
       let free : IsFree s slot x = Between (omega arith) (omega arith) in
-      let code = scene.setting.address (first + suc i) in
+      let code = scene.program.setting.address (first + suc i) in
       let next = store_others s (local_word s slot) captured first (suc (suc i)) n k in
       let p = procs 0 (omega arith) in
       let same : first + suc (i + 0) ≡ first + suc i = omega arith in
@@ -254,12 +263,12 @@ module _ (scene : Scene) (world : WorldState) (h : Heap) (allowed : scene.allowe
       (store_far (test_word s) (local_word s slot) (Word x) (function_offset captured (suc i) + 8) next))
       (λ now changed. refl) (omega arith) st ing (omega (arith, long)) (omega (arith, fits))
       (λ m' now st' ing' changed.
-      code_addresses scene.setting scene.P scene.Q (calm_by m' (ws ++ closure_header 1 ∷ []) st') p.0
-      (ap (slice_get scene.setting.procs) (sym same) ∙ p.1) (omega (arith, room, params))
+      code_addresses scene.program.setting scene.P scene.Q (calm_by m' (ws ++ closure_header 1 ∷ []) st') p.0
+      (ap (slice_get scene.program.setting.procs) (sym same) ∙ p.1) (omega (arith, room, params))
       (stores_far (Word x) code (function_offset captured (suc i) + 8) m' (ws ++ closure_header 1 ∷ [])
       (set_local x code now) next
       (λ last changed'. changed' x (λ e. omega (arith, e)) ∙ word_here x code now)
-      (small (first + suc i) p.0 (ap (slice_get scene.setting.procs) (sym same) ∙ p.1)) st'
+      (small (first + suc i) p.0 (ap (slice_get scene.program.setting.procs) (sym same) ∙ p.1)) st'
       (storing_set x code now free (λ e. omega (arith, d_is, e, params)) ing')
       (let z = length-append ws (closure_header 1 ∷ []) in omega (arith, z, long)) (omega (arith, fits))
       (λ m'' last st'' ing'' changed'.
@@ -269,10 +278,10 @@ module _ (scene : Scene) (world : WorldState) (h : Heap) (allowed : scene.allowe
       (omega (arith, fits))
       (λ j lt. let q = procs (suc j) (omega (arith, lt)) in
       let e : first + suc (i + suc j) ≡ first + suc (suc i + j) = omega arith in
-      (q.0, ap (slice_get scene.setting.procs) (sym e) ∙ q.1)) small
+      (q.0, ap (slice_get scene.program.setting.procs) (sym e) ∙ q.1)) small
       (λ m3 end st3 ing3. go m3 end (record {
         held = subst (HoldsWords m3 h.alloc) (twice ws (closure_header 1) code
-            (other_words scene.setting.address first (suc i) n)) st3.held;
+            (other_words scene.program.setting.address first (suc i) n)) st3.held;
         below = st3.below;
       }) ing3))))
     where
@@ -281,7 +290,7 @@ module _ (scene : Scene) (world : WorldState) (h : Heap) (allowed : scene.allowe
 
   -- ---- the local names of the functions behind the first
 
-  pub others_named : (hm : Heap) → Calm scene.setting scene.P scene.Q size waiting world hm → (captured i n : ℕ)
+  pub others_named : (hm : Heap) → Calm scene.program.setting scene.P scene.Q size waiting world hm → (captured i n : ℕ)
       (new : Locals)
       (k : Code) → new (local_word s slot) ≡ Some h.alloc → slot + suc i + n + 10 ≤ size
       → h.alloc + 16 + 8 * captured + 16 * i + 16 * n < 2 ^ 64
@@ -296,7 +305,8 @@ module _ (scene : Scene) (world : WorldState) (h : Heap) (allowed : scene.allowe
       let x = local_word s (slot + suc i) in
       let x_is : x ≡ slot + suc i + 10 = local_high s (slot + suc i) (omega (arith, params)) in
       let w = h.alloc + function_offset captured (suc i) in
-      computes scene.setting scene.P scene.Q calm h.alloc (function_offset captured (suc i) % 2 ^ 64) w place refl
+      computes scene.program.setting scene.P scene.Q calm h.alloc (function_offset captured (suc i) % 2 ^ 64) w place
+      refl
       (added h.alloc (function_offset captured (suc i)) (omega (arith, small))) (omega (arith, x_is, fits))
       (others_named hm calm captured (suc i) n (set_local x w new) k
       (word_other x w new (local_word s slot) (λ e. omega (arith, e, x_is, d_is)) ∙ place) (omega (arith, fits))
@@ -332,20 +342,22 @@ module _ (scene : Scene) (world : WorldState) (h : Heap) (allowed : scene.allowe
       (bound : operands_bound s.captured count slot captured ≡ true) (deep : slot + suc others + 10 ≤ size)
       (narrow : suc (length captured) < 4294967296) (few : others < 4294967296)
       (stand : (j : ℕ) → j < suc others
-      → (p : Proc) × (slice_get scene.setting.procs (first + j) ≡ Some p))
-      (small : (j : ℕ) (p : Proc) → slice_get scene.setting.procs j ≡ Some p → scene.setting.address j < 2 ^ 64)
+      → (p : Proc) × (slice_get scene.program.setting.procs (first + j) ≡ Some p))
+      (small : (j : ℕ) (p : Proc) → slice_get scene.program.setting.procs j ≡ Some p
+      → scene.program.setting.address j < 2 ^ 64)
       (members : (place : ℕ) → place < suc others
-      → IsMember scene.procs first (suc others) (length captured) place)
+      → IsMember scene.program.procs first (suc others) (length captured) place)
       (room_asked : scene.allowed world (h.words + group_words (length captured) others)) where
-    abbrev made : Group scene.meaning.Cast
+    abbrev made : Group scene.program.meaning.Cast
     made = new_group first (values locals group captured)
 
     abbrev bigger : List ℕ → List Object
-    bigger cs = objects ++ group_objects scene.setting.address first others cs
+    bigger cs = objects ++ group_objects scene.program.setting.address first others cs
 
     -- a group was made: its functions have their local names
     pub record MadeGroup (cs : List ℕ) (h' : Heap) (now : Locals) : Type 0 where
-      pub all_filled : Filled scene.meaning scene.setting scene.l scene.number (bigger cs) h'
+      pub all_filled : Fills scene.program
+          (bigger cs) h'
       pub asked : scene.allowed world h'.words
       pub below : (i : ℕ) → i < h.alloc → h'.memory i ≡ h.memory i
       pub same : SameNamed s slot words now
@@ -359,18 +371,21 @@ module _ (scene : Scene) (world : WorldState) (h : Heap) (allowed : scene.allowe
     module _ (cs : List ℕ) (carried : CarryAll scene objects (in_row (values locals group captured)) cs) where
       long : length cs ≡ length captured
       long =
-          as_many scene.l scene.setting.address scene.procs scene.meaning scene.laws scene.places objects
+          as_many scene.program.l scene.program.setting.address scene.program.procs scene.program.meaning
+          scene.program.laws scene.places objects
           (values locals group captured) cs carried
           ∙ values_long captured
 
-      group_stands : IsGroup scene.l scene.setting.address scene.procs scene.meaning scene.places (bigger cs) first
+      group_stands : IsGroup scene.program.l scene.program.setting.address scene.program.procs scene.program.meaning
+          scene.places (bigger cs) first
           h.alloc (suc others) cs
       group_stands = record {
-        members = λ place lt. subst (λ n. IsMember scene.procs first (suc others) n place) (sym long)
+        members = λ place lt. subst (λ n. IsMember scene.program.procs first (suc others) n place) (sym long)
             (members place lt);
-        leads = leader_added scene.l scene.setting.address objects first others cs h.alloc filled.ends;
+        leads = leader_added scene.program.l scene.program.setting.address objects first others cs h.alloc filled.ends;
         others = λ i lt.
-            other_added scene.l scene.setting.address objects first others cs h.alloc filled.ends i (omega (arith, lt));
+            other_added scene.program.l scene.program.setting.address objects first others cs h.alloc filled.ends i
+            (omega (arith, lt));
       }
 
       member_carried : (j : ℕ) → j < suc others
@@ -382,8 +397,10 @@ module _ (scene : Scene) (world : WorldState) (h : Heap) (allowed : scene.allowe
         refl,
         lt,
         group_stands,
-        all_later scene.l scene.setting.address scene.procs scene.meaning scene.laws scene.places objects
-            (group_objects scene.setting.address first others cs) (in_row (values locals group captured)) cs carried,
+        all_later scene.program.l scene.program.setting.address scene.program.procs scene.program.meaning
+            scene.program.laws scene.places objects
+            (group_objects scene.program.setting.address first others cs) (in_row (values locals group captured)) cs
+            carried,
       )
 
       group_slot : (i place : ℕ) → place ≡ slot + i → i < suc others
@@ -440,8 +457,9 @@ module _ (scene : Scene) (world : WorldState) (h : Heap) (allowed : scene.allowe
                 z.0,
                 low (local_word s i) (below_place (local_word s i) named) ∙ (same (local_word s i) named ∙ z.1),
                 subst (λ v. Carries scene (bigger cs) v z.0) (sym (group_below i less))
-                    (later scene.l scene.setting.address scene.procs scene.meaning scene.laws scene.places objects
-                    (group_objects scene.setting.address first others cs) (locals i) z.0 z.2),
+                    (later scene.program.l scene.program.setting.address scene.program.procs scene.program.meaning
+                    scene.program.laws scene.places objects
+                    (group_objects scene.program.setting.address first others cs) (locals i) z.0 z.2),
               )
             where
               below_place : (x : ℕ) → Named s slot x → x < slot + 1 + 10
@@ -465,32 +483,35 @@ module _ (scene : Scene) (world : WorldState) (h : Heap) (allowed : scene.allowe
     fits_word = mod-eq_of_lt (omega (arith, narrow, few))
 
     -- all words are stored
-    takes_group : (k : Code) → Makes k → h.alloc + 8 * total ≤ scene.setting.top → (cs : List ℕ) (m : Memory)
+    takes_group : (k : Code) → Makes k → h.alloc + 8 * total ≤ scene.program.setting.top → (cs : List ℕ) (m : Memory)
         (new : Locals) → CarryAll scene objects (in_row (values locals group captured)) cs
-        → Stored m (closure_header (suc (length captured)) ∷ scene.setting.address first
-        ∷ (cs ++ other_words scene.setting.address first 0 others))
+        → Stored m (closure_header (suc (length captured)) ∷ scene.program.setting.address first
+        ∷ (cs ++ other_words scene.program.setting.address first 0 others))
         → Storing new → On m new (taking k)
     takes_group k go fits cs m new carried st ing =
         let size_is = long cs carried in
-        let bytes = group_bytes scene.setting.address first others cs in
-        let more = group_objects scene.setting.address first others cs in
-        let heads = subst (λ n. HoldsWords m h.alloc (closure_header (suc n) ∷ scene.setting.address first
-        ∷ (cs ++ other_words scene.setting.address first 0 others))) (sym size_is) st.held in
+        let bytes = group_bytes scene.program.setting.address first others cs in
+        let more = group_objects scene.program.setting.address first others cs in
+        let heads = subst (λ n. HoldsWords m h.alloc (closure_header (suc n) ∷ scene.program.setting.address first
+        ∷ (cs ++ other_words scene.program.setting.address first 0 others))) (sym size_is) st.held in
         let h' : Heap = record { memory = m; alloc = h.alloc + 8 * total; words = h.words + total } in
-        let all : Filled scene.meaning scene.setting scene.l scene.number (bigger cs) h' =
-        filled_more scene.meaning scene.setting scene.l scene.placed objects more h m (h.alloc + 8 * total)
+        let all : Fills scene.program (bigger cs) h'
+        =
+        filled_more scene.program.meaning scene.program.setting scene.program.l scene.program.placed objects more h m
+        (h.alloc + 8 * total)
         (h.words + total) filled
-        st.below (group_holds scene.setting.address m h.alloc first others cs heads)
-        (group_kept scene.meaning scene.laws scene.l scene.number scene.setting.address objects first others cs
+        st.below (group_holds scene.program.setting.address m h.alloc first others cs heads)
+        (group_kept scene.program.meaning scene.program.laws scene.program.l scene.program.number
+        scene.program.setting.address objects first others cs
         filled.keeps) (omega (arith, bytes, size_is)) fits in
-        takes scene.setting scene.P scene.Q
-        (calm_by m (closure_header (suc (length captured)) ∷ scene.setting.address first
-        ∷ (cs ++ other_words scene.setting.address first 0 others)) st) total
+        takes scene.program.setting scene.P scene.Q
+        (calm_by m (closure_header (suc (length captured)) ∷ scene.program.setting.address first
+        ∷ (cs ++ other_words scene.program.setting.address first 0 others)) st) total
         (ap Some fits_word) fits
         (others_named h' (scene.calm world h' (bigger cs) all room_asked size waiting frames_fit) (length captured) 0
         others new k ing.place
         (omega (arith, deep))
-        (omega (arith, fits, scene.placed.top))
+        (omega (arith, fits, scene.program.placed.top))
         (λ now low high. go cs h' now (record {
           all_filled = all;
           asked = room_asked;
@@ -508,15 +529,17 @@ module _ (scene : Scene) (world : WorldState) (h : Heap) (allowed : scene.allowe
         below_place x (HighName p q) = omega (arith, q)
 
     pub makes_group : (k : Code)
-        → scene.Q.floor ≤ code_price scene.setting.procs size (make_group s slot first others captured k)
-        - step_price scene.setting.procs size (make_group s slot first others captured k)
-        + codes_price scene.setting.procs size rests → Makes k
+        → scene.Q.floor ≤ code_price scene.program.setting.procs size (make_group s slot first others captured k)
+        - step_price scene.program.setting.procs size (make_group s slot first others captured k)
+        + codes_price scene.program.setting.procs size rests → Makes k
         → Arrives scene (at world h waiting size rests words (make_group s slot first others captured k))
     makes_group k enough go =
-        requests scene.setting scene.P scene.Q (scene.calm world h objects filled allowed size waiting frames_fit)
+        requests scene.program.setting scene.P scene.Q (scene.calm world h objects filled allowed size waiting
+        frames_fit)
         total (ap Some fits_word) d_less
         (scene.calm world (record h { words = h.words + total }) objects
-        (filled_above scene.meaning scene.setting scene.l scene.placed objects h h.memory (h.words + total) filled
+        (filled_above scene.program.meaning scene.program.setting scene.program.l scene.program.placed objects h
+        h.memory (h.words + total) filled
         (λ i l. refl)) room_asked size waiting frames_fit) (omega (arith, enough))
         (λ fits. heads fits (set_local (local_word s slot) h.alloc words)
         (record { held = tt; below = λ i lt. refl }) (record {
@@ -534,31 +557,32 @@ module _ (scene : Scene) (world : WorldState) (h : Heap) (allowed : scene.allowe
         behind = store_captured s (local_word s slot) 0 captured (
             store_others s (local_word s slot) (length captured) first 1 others (taking k))
 
-        later_words : h.alloc + 8 * total ≤ scene.setting.top → (m : Memory) (new : Locals)
-            → Stored m (closure_header (suc (length captured)) ∷ scene.setting.address first ∷ []) → Storing new
+        later_words : h.alloc + 8 * total ≤ scene.program.setting.top → (m : Memory) (new : Locals)
+            → Stored m (closure_header (suc (length captured)) ∷ scene.program.setting.address first ∷ []) → Storing new
             → On m new behind
         later_words fits m new st ing =
-            captured_stored captured 0 m (closure_header (suc (length captured)) ∷ scene.setting.address first ∷ []) new
+            captured_stored captured 0 m (closure_header (suc (length captured)) ∷ scene.program.setting.address first ∷
+            []) new
             (store_others s (local_word s slot) (length captured) first 1 others (taking k)) bound refl st ing
             (omega (arith, fits))
             (λ cs m' now carried st' ing'.
             let size_is = long cs carried in
             others_stored (length captured) first 0 others m'
-            (closure_header (suc (length captured)) ∷ scene.setting.address first ∷ cs) now (taking k)
+            (closure_header (suc (length captured)) ∷ scene.program.setting.address first ∷ cs) now (taking k)
             (omega (arith, size_is)) st' ing' (omega (arith, fits)) (λ j lt.
             let p = stand (suc j) (omega (arith, lt)) in
             let e : first + suc j ≡ first + suc (0 + j) = omega arith in
-            (p.0, ap (slice_get scene.setting.procs) (sym e) ∙ p.1)) small
+            (p.0, ap (slice_get scene.program.setting.procs) (sym e) ∙ p.1)) small
             (λ m'' last st'' ing''. takes_group k go fits cs m'' last carried st'' ing''))
 
-        heads : h.alloc + 8 * total ≤ scene.setting.top → (new : Locals) → Stored h.memory [] → Storing new
+        heads : h.alloc + 8 * total ≤ scene.program.setting.top → (new : Locals) → Stored h.memory [] → Storing new
             → On h.memory new (
             Store (Number (word_header (kind_number Closure) (suc (length captured)))) (Word (local_word s slot)) 0 (
             CodeOf (operand_word s 0) first (
             Store (Word (operand_word s 0)) (Word (local_word s slot)) 8 behind)))
         heads fits new st ing =
             let head = closure_header (suc (length captured)) in
-            let code = scene.setting.address first in
+            let code = scene.program.setting.address first in
             let head_is = ap Some (header_word 1 (suc (length captured)) (omega arith) narrow) in
             let p = stand 0 (omega arith) in
             let none : first + 0 ≡ first = omega arith in
@@ -566,11 +590,11 @@ module _ (scene : Scene) (world : WorldState) (h : Heap) (allowed : scene.allowe
             new _ head_is
             (header_small 1 (suc (length captured)) (omega arith) narrow) st ing refl (omega (arith, fits))
             (λ m st'.
-            code_addresses scene.setting scene.P scene.Q (calm_by m (head ∷ []) st') p.0
-            (ap (slice_get scene.setting.procs) (sym none) ∙ p.1) (omega (arith, room, params))
+            code_addresses scene.program.setting scene.P scene.Q (calm_by m (head ∷ []) st') p.0
+            (ap (slice_get scene.program.setting.procs) (sym none) ∙ p.1) (omega (arith, room, params))
             (stores_at (Word (operand_word s 0)) code 8 m (head ∷ []) (set_local (operand_word s 0) code new) behind
             (word_here (operand_word s 0) code new)
-            (small first p.0 (ap (slice_get scene.setting.procs) (sym none) ∙ p.1)) st'
+            (small first p.0 (ap (slice_get scene.program.setting.procs) (sym none) ∙ p.1)) st'
             (storing_set (operand_word s 0) code new x_free (λ e. omega (arith, d_is, e, params)) ing) refl
             (omega (arith, fits))
             (λ m' st''. later_words fits m' (set_local (operand_word s 0) code new) st''

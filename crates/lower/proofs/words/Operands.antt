@@ -26,7 +26,6 @@ use Rattle.flat_ir.specs.Machine.{Group, Locals as FlatLocals, value, values}
 use Rattle.coercion_norm.specs.Objects.{Object}
 use Rattle.low_ir.specs.Frames.{frame_room, waiting_room}
 use Rattle.rt_cast.specs.States.{Heap}
-use Rattle.lower.specs.Storage.{Filled}
 use Rattle.lower.specs.declared.numbering.Shape.{Shape}
 use Rattle.lower.specs.Numbering.{own_word, operand_word, test_word, local_word, function_offset, captured_offset}
 use Rattle.lower.specs.Emit.{load_far, leader_code, leader, fetch, found, fetch_all, found_all}
@@ -34,7 +33,7 @@ use Rattle.lower.specs.Relation.{OwnGroup, Knows}
 use Rattle.lower.proofs.heap.Filled.{WordThere, word_there}
 use Rattle.lower.proofs.heap.CarriedLater.{carried_at, function_small}
 use Rattle.lower.proofs.words.Steps.{at, Calm, computes, loads}
-use Rattle.lower.proofs.words.Scene.{Scene, Carries, CarryAll, Arrives}
+use Rattle.lower.proofs.words.Scene.{Scene, Carries, CarryAll, Arrives, Fills}
 use Rattle.lower.proofs.simulation.RelationKept.{word_here, word_other, Named, OwnName, LowName, HighName, named_local}
 use Rattle.lower.proofs.simulation.RelationKept.{SameNamed}
 use Rattle.lower.proofs.simulation.RelationKept.{knows_same}
@@ -91,25 +90,28 @@ behind d j n low e (inl p) = inl (omega (arith, p, e))
 behind d j n low e (inr p) = inr (omega (arith, p, e))
 
 module _ (scene : Scene) (world : WorldState) (h : Heap) (allowed : scene.allowed world h.words)
-    (objects : List Object)
-    (filled : Filled scene.meaning scene.setting scene.l scene.number objects h) (waiting : List Waiting) (size : ℕ)
+    (objects : List Object) (filled : Fills scene.program objects h) (waiting : List Waiting) (size : ℕ)
     (frames_fit : frame_room size + waiting_room waiting ≤ scene.room) (rests : List Code) where
-  abbrev calm : Calm scene.setting scene.P scene.Q size waiting world h
+  abbrev calm : Calm scene.program.setting scene.P scene.Q size waiting world h
   calm = scene.calm world h objects filled allowed size waiting frames_fit
 
   abbrev pub On : Locals → Code → Type 0
   On words code = Arrives scene (at world h waiting size rests words code)
 
-  abbrev pub KnowsHere : Shape → ℕ → Group scene.meaning.Cast → ℕ → FlatLocals scene.meaning.Cast → Locals → Type 0
-  KnowsHere s count group depth locals words = Knows scene.setting scene.l scene.run scene.procs scene.answer
-      scene.meaning scene.places objects s count group depth locals words
+  abbrev pub KnowsHere : Shape → ℕ → Group scene.program.meaning.Cast → ℕ → FlatLocals scene.program.meaning.Cast
+      → Locals → Type 0
+  KnowsHere s count group depth locals words = Knows scene.program.setting scene.program.l scene.program.run
+      scene.program.procs scene.program.answer
+      scene.program.meaning scene.places objects s count group depth locals words
 
-  abbrev pub OwnHere : Shape → ℕ → Group scene.meaning.Cast → ℕ → Type 0
-  OwnHere s count group own = OwnGroup scene.setting scene.l scene.run scene.procs scene.answer scene.meaning
+  abbrev pub OwnHere : Shape → ℕ → Group scene.program.meaning.Cast → ℕ → Type 0
+  OwnHere s count group own = OwnGroup scene.program.setting scene.program.l scene.program.run scene.program.procs
+      scene.program.answer scene.program.meaning
       scene.places objects s count group own
 
   pub load_far_reads : (d : ℕ) (base : LowSource) (offset : ℕ) (k : Code) (words : Locals) (x w : ℕ)
-      → word_of words base ≡ Some x → WordThere scene.meaning scene.setting scene.l scene.placed h.memory (x + offset) w
+      → word_of words base ≡ Some x → WordThere scene.program.meaning scene.program.setting scene.program.l
+      scene.program.placed h.memory (x + offset) w
       → d < size
       → ((new : Locals) → new d ≡ Some w → Changes d words new → On new k) → On words (load_far d base offset k)
   load_far_reads d base offset k words x w e there lt go = by_size (nat_lt offset 2048) refl
@@ -118,7 +120,7 @@ module _ (scene : Scene) (world : WorldState) (h : Heap) (allowed : scene.allowe
       by_size true q =
           subst (λ c. On words (if c then Load d base offset k
           else Compute Plus d base (Number offset) (Load d (Word d) 0 k))) (sym q)
-          (loads scene.setting scene.P scene.Q calm x w e there.may there.is
+          (loads scene.program.setting scene.P scene.Q calm x w e there.may there.is
           (let z = there.end in omega arith) lt
           (go (set_local d w words) (word_here d w words) (λ j ne. word_other d w words j ne)))
       by_size false q =
@@ -127,17 +129,17 @@ module _ (scene : Scene) (world : WorldState) (h : Heap) (allowed : scene.allowe
           let none : x + offset ≡ x + offset + 0 = omega arith in
           subst (λ c. On words (if c then Load d base offset k
           else Compute Plus d base (Number offset) (Load d (Word d) 0 k))) (sym q)
-          (computes scene.setting scene.P scene.Q calm x (offset % 2 ^ 64)
+          (computes scene.program.setting scene.P scene.Q calm x (offset % 2 ^ 64)
           (x + offset) e refl (added x offset fits) lt
-          (loads scene.setting scene.P scene.Q calm (x + offset) w
+          (loads scene.program.setting scene.P scene.Q calm (x + offset) w
           (word_here d (x + offset) words)
-          (subst (λ n. may_load scene.setting.top n ≡ true) none there.may)
+          (subst (λ n. may_load scene.program.setting.top n ≡ true) none there.may)
           (subst (λ n. load_bytes 8 h.memory n ≡ w) none there.is)
           (omega (arith, fits)) lt
           (go (set_local d w first) (word_here d w first)
           (λ j ne. word_other d w first j ne ∙ word_other d (x + offset) words j ne))))
 
-  module _ (s : Shape) (count : ℕ) (group : Group scene.meaning.Cast) where
+  module _ (s : Shape) (count : ℕ) (group : Group scene.program.meaning.Cast) where
     -- the first function of the group
     pub leader_reads : (own : ℕ) (g : OwnHere s count group own) (d : ℕ) (k : Code) (words : Locals)
         → words own_word ≡ Some own → d < size
@@ -155,8 +157,10 @@ module _ (scene : Scene) (world : WorldState) (h : Heap) (allowed : scene.allowe
         own_is = omega (arith, g.is, offset_is)
 
         fits : g.leader + function_offset (length g.words) s.place < 2 ^ 64
-        fits = function_small scene.l scene.setting.address scene.procs scene.meaning scene.laws scene.places objects
-            scene.setting scene.placed h filled group.first g.leader count s.place g.words g.inside g.stands
+        fits = function_small scene.program.l scene.program.setting.address scene.program.procs scene.program.meaning
+            scene.program.laws scene.places objects
+            scene.program.setting scene.program.placed h filled group.first g.leader count s.place g.words g.inside
+            g.stands
 
         by_place : (b : Bool) → (s.place == 0) ≡ b → On words (leader_code s d k)
         by_place true q =
@@ -174,13 +178,13 @@ module _ (scene : Scene) (world : WorldState) (h : Heap) (allowed : scene.allowe
             (omega (arith, fits, offset_is)) in
             subst (λ c. On words (if c then k
             else Compute Minus d (Word own_word) (Number (function_offset s.captured s.place)) k)) (sym q)
-            (computes scene.setting scene.P scene.Q calm own
+            (computes scene.program.setting scene.P scene.Q calm own
             (function_offset s.captured s.place % 2 ^ 64) g.leader e refl back lt
             (go (set_local d g.leader words)
             (ap (λ c. word_of (set_local d g.leader words) (if c then Word own_word else Word d)) q
             ∙ word_here d g.leader words) (λ j ne. word_other d g.leader words j ne)))
 
-    module _ (depth : ℕ) (locals : FlatLocals scene.meaning.Cast) where
+    module _ (depth : ℕ) (locals : FlatLocals scene.program.meaning.Cast) where
       abbrev Reads : ℕ → Operand → Locals → Code → Type 0
       Reads d o words k =
           (w : ℕ) (new : Locals) → Carries scene objects (value locals group o) w → word_of new (found s d o) ≡ Some w
@@ -191,10 +195,12 @@ module _ (scene : Scene) (world : WorldState) (h : Heap) (allowed : scene.allowe
           → words own_word ≡ Some own → d < size → Reads d (Captured i) words k
           → On words (fetch s d (Captured i) k)
       captured_reads i d less k words own g e lt go =
-          let z = carried_at scene.l scene.setting.address scene.procs scene.meaning scene.laws scene.places objects
+          let z = carried_at scene.program.l scene.program.setting.address scene.program.procs scene.program.meaning
+          scene.program.laws scene.places objects
           group.captured g.words i g.carried (omega (arith, less, g.long)) in
-          let there = word_there scene.meaning scene.setting scene.l scene.placed objects h filled g.leader _
-          (scene.setting.address group.first ∷ g.words) g.stands.leads (suc (suc i)) z.0
+          let there = word_there scene.program.meaning scene.program.setting scene.program.l scene.program.placed
+          objects h filled g.leader _
+          (scene.program.setting.address group.first ∷ g.words) g.stands.leads (suc (suc i)) z.0
           (g.leader + captured_offset i) z.1 (omega arith) in
           leader_reads own g d (load_far d (leader s d) (captured_offset i) k) words e lt
           (λ new is changed. load_far_reads d (leader s d) (captured_offset i) k new g.leader z.0 is there lt
@@ -206,16 +212,18 @@ module _ (scene : Scene) (world : WorldState) (h : Heap) (allowed : scene.allowe
           → On words (fetch s d (Sibling i) k)
       sibling_reads i d less k words own g e lt go =
           let w = g.leader + function_offset (length g.words) i in
-          let fits : w < 2 ^ 64 = function_small scene.l scene.setting.address scene.procs scene.meaning scene.laws
+          let fits : w < 2 ^ 64 = function_small scene.program.l scene.program.setting.address scene.program.procs
+          scene.program.meaning scene.program.laws
           scene.places
-          objects scene.setting scene.placed h filled group.first g.leader count i g.words less g.stands in
+          objects scene.program.setting scene.program.placed h filled group.first g.leader count i g.words less g.stands
+          in
           let offset_is : function_offset s.captured i ≡ function_offset (length g.words) i =
           ap (λ n. function_offset n i) g.long in
           let sum : add g.leader (function_offset s.captured i % 2 ^ 64) ≡ w =
           added g.leader (function_offset s.captured i) (omega (arith, fits, offset_is))
           ∙ ap (λ n. g.leader + n) offset_is in
           leader_reads own g d (Compute Plus d (leader s d) (Number (function_offset s.captured i)) k) words e lt
-          (λ new is changed. computes scene.setting scene.P scene.Q calm
+          (λ new is changed. computes scene.program.setting scene.P scene.Q calm
           g.leader (function_offset s.captured i % 2 ^ 64) w is refl sum lt
           (go w (set_local d w new) (g.leader, count, g.words, refl, less, g.stands, g.carried) (word_here d w new)
           (λ j ne. word_other d w new j ne ∙ changed j ne)))
@@ -266,7 +274,8 @@ module _ (scene : Scene) (world : WorldState) (h : Heap) (allowed : scene.allowe
               → (w : ℕ) × Carries scene objects (value locals group (Captured i)) w
           by_own (inl e) = absurd (omega (arith, less, e.0))
           by_own (inr g) =
-              let z = carried_at scene.l scene.setting.address scene.procs scene.meaning scene.laws scene.places objects
+              let z = carried_at scene.program.l scene.program.setting.address scene.program.procs scene.program.meaning
+              scene.program.laws scene.places objects
               group.captured g.words i g.carried (omega (arith, less, g.long)) in
               (z.0, z.2)
       value_carried (Sibling i) bound words knows = by_own knows.own_group
@@ -344,7 +353,8 @@ module _ (scene : Scene) (world : WorldState) (h : Heap) (allowed : scene.allowe
           let same : SameNamed s depth words new = same_besides s depth d 1 words new (omega arith)
           (omega (arith, few)) (λ j side. changed j (apart d j side)) in
           fetch_all_reads os (suc i) both.1 (omega (arith, few)) room new
-          (knows_same scene.setting scene.l scene.run scene.procs scene.answer scene.meaning scene.laws scene.places
+          (knows_same scene.program.setting scene.program.l scene.program.run scene.program.procs scene.program.answer
+          scene.program.meaning scene.program.laws scene.places
           objects s
           count group depth locals words new same knows) k
           (λ ws last all are changed'.

@@ -27,7 +27,6 @@ use Rattle.coercion_norm.specs.Objects.{Object, Fixed, bytes_of, bytes_of_all, o
 use Rattle.object_layout.specs.Words.{kind_mask}
 use Rattle.low_ir.specs.Frames.{frame_room, waiting_room}
 use Rattle.rt_cast.specs.States.{Heap}
-use Rattle.lower.specs.Storage.{Filled}
 use Rattle.lower.specs.declared.numbering.Shape.{Shape}
 use Rattle.lower.specs.Numbering.{operand_word, test_word}
 use Rattle.lower.specs.Emit.{found, found_all, of_kind, part, perform}
@@ -38,7 +37,7 @@ use Rattle.lower.proofs.heap.CarriedLater.{as_many, all_small, part_carried, all
 use Rattle.lower.proofs.words.Arithmetic.{header_word, header_small, kind_read, header_is}
 use Rattle.lower.proofs.words.Steps.{at, Calm, sets_word, computes, loads, builds, if_true, falls_through, lt_true}
 use Rattle.lower.proofs.words.Steps.{Moves, loads_first, comes_on}
-use Rattle.lower.proofs.words.Scene.{Scene, Carries, CarryAll, Arrives}
+use Rattle.lower.proofs.words.Scene.{Scene, Carries, CarryAll, Arrives, Fills}
 use Rattle.lower.proofs.simulation.RelationKept.{word_here, word_other, Named, OwnName, LowName, HighName, SameNamed}
 use Rattle.lower.proofs.words.Operands.{Changes, ChangesFrom, KnowsHere, fetch_reads, fetch_all_reads, and_true}
 use Rattle.lower.proofs.words.Operands.{found_same}
@@ -66,47 +65,48 @@ added_there region objects o rest at e =
     (eq-eqb at (region + bytes_of_all objects) e)
 
 module _ (scene : Scene) (world : WorldState) (h : Heap) (allowed : scene.allowed world h.words)
-    (objects : List Object)
-    (filled : Filled scene.meaning scene.setting scene.l scene.number objects h) (waiting : List Waiting) (size : ℕ)
+    (objects : List Object) (filled : Fills scene.program objects h) (waiting : List Waiting) (size : ℕ)
     (frames_fit : frame_room size + waiting_room waiting ≤ scene.room) (rests : List Code)
-    (s : Shape) (count : ℕ) (group : Group scene.meaning.Cast) (depth : ℕ) (locals : FlatLocals scene.meaning.Cast)
+    (s : Shape) (count : ℕ) (group : Group scene.program.meaning.Cast) (depth : ℕ)
+    (locals : FlatLocals scene.program.meaning.Cast)
     (room : s.params + 10 ≤ size) (words : Locals)
     (knows : KnowsHere scene world h allowed objects filled waiting size frames_fit rests s count group depth locals
     words) where
-  abbrev calm : Calm scene.setting scene.P scene.Q size waiting world h
+  abbrev calm : Calm scene.program.setting scene.P scene.Q size waiting world h
   calm = scene.calm world h objects filled allowed size waiting frames_fit
 
   -- a value is put into a word, and no object is added
-  abbrev pub Puts : ℕ → FlatValue scene.meaning.Cast → Code → Type 0
+  abbrev pub Puts : ℕ → FlatValue scene.program.meaning.Cast → Code → Type 0
   Puts d v k =
       (w : ℕ) (new : Locals) → Carries scene objects v w → new d ≡ Some w → Touches s d words new
       → Arrives scene (at world h waiting size rests new k)
 
   -- a value is put into a word, where objects are added
-  abbrev pub PutsMore : ℕ → FlatValue scene.meaning.Cast → Code → Type 0
+  abbrev pub PutsMore : ℕ → FlatValue scene.program.meaning.Cast → Code → Type 0
   PutsMore d v k =
-      (more : List Object) (h' : Heap) → Filled scene.meaning scene.setting scene.l scene.number (objects ++ more) h'
+      (more : List Object) (h' : Heap) → Fills scene.program (objects ++ more) h'
       → ((i : ℕ) → i < h.alloc → h'.memory i ≡ h.memory i) → scene.allowed world h'.words → (w : ℕ) (new : Locals)
       → Carries scene (objects ++ more) v w → new d ≡ Some w → Touches s d words new
       → Arrives scene (at world h' waiting size rests new k)
 
   pub moves : (o : Operand) (d : ℕ) → operand_bound s.captured count depth o ≡ true → d < size → (k : Code)
       → Puts d (value locals group o) k
-      → Arrives scene (at world h waiting size rests words (perform scene.run s d (Move o) k))
+      → Arrives scene (at world h waiting size rests words (perform scene.program.run s d (Move o) k))
   moves o d bound lt k go =
       let t = operand_word s 0 in
       fetch_reads scene world h allowed objects filled waiting size frames_fit rests s count group depth locals o t
       bound
       (omega (arith, room)) words knows (Set d (found s t o) k)
-      (λ w new carried is changed. sets_word scene.setting scene.P scene.Q calm w is lt
+      (λ w new carried is changed. sets_word scene.program.setting scene.P scene.Q calm w is lt
       (go w (set_local d w new) carried (word_here d w new)
       (λ j ne side. word_other d w new j ne ∙ changed j (not_computed s t j (omega arith) (omega arith) side))))
 
   pub makes_tuple : (os : List Operand) (d : ℕ) → operation_bound s.captured count depth (Tuple os) ≡ true → d < size
       → (k : Code) → scene.allowed world (h.words + suc (length os))
-      → scene.Q.floor ≤ code_price scene.setting.procs size k + codes_price scene.setting.procs size rests
+      → scene.Q.floor ≤ code_price scene.program.setting.procs size k + codes_price scene.program.setting.procs
+      size rests
       → PutsMore d (RunTuple (in_row (values locals group os))) k
-      → Arrives scene (at world h waiting size rests words (perform scene.run s d (Tuple os) k))
+      → Arrives scene (at world h waiting size rests words (perform scene.program.run s d (Tuple os) k))
   makes_tuple os d bound lt k room_asked enough go =
       let parts = and_true (operands_bound s.captured count depth os) (nat_le 1 (length os) && nat_le (length os) 8)
       bound in
@@ -129,26 +129,30 @@ module _ (scene : Scene) (world : WorldState) (h : Heap) (allowed : scene.allowe
           → Arrives scene (at world h waiting size rests new
           (Build d (Number (word_header (kind_number TupleKind) (length os)) ∷ found_all s 0 os) k))
       made bound least most ws new carried are changed =
-          let long : length ws ≡ length os = as_many scene.l scene.setting.address scene.procs scene.meaning scene.laws
+          let long : length ws ≡ length os = as_many scene.program.l scene.program.setting.address scene.program.procs
+          scene.program.meaning scene.program.laws
           scene.places objects (values locals group os) ws carried ∙ values_long os in
           let head : (4 + 4294967296 * length os) % 2 ^ 64 ≡ tuple_header (length ws) =
           ap (λ n. (4 + 4294967296 * n) % 2 ^ 64) (sym long) ∙ header_word 4 (length ws) (omega arith)
           (omega (arith, long, most)) in
           let o : Object = Fixed (tuple_header (length ws)) ws in
-          let small = all_small scene.l scene.setting.address scene.procs scene.meaning scene.laws scene.places objects
-          scene.setting scene.placed h filled (in_row (values locals group os)) ws carried in
+          let small = all_small scene.program.l scene.program.setting.address scene.program.procs scene.program.meaning
+          scene.program.laws scene.places objects
+          scene.program.setting scene.program.placed h filled (in_row (values locals group os)) ws carried in
           let asked : scene.allowed world (h.words + suc (length ws)) =
           subst (λ n. scene.allowed world (h.words + suc n)) (sym long) room_asked in
-          builds scene.setting scene.P scene.Q calm
+          builds scene.program.setting scene.P scene.Q calm
           (tuple_header (length ws) ∷ ws) (ap₂ and_more (ap Some head) are) (omega (arith, long, most)) lt
           (scene.calm world (record h { words = h.words + suc (length ws) }) objects
-          (filled_above scene.meaning scene.setting scene.l scene.placed objects h h.memory (h.words + suc (length ws))
+          (filled_above scene.program.meaning scene.program.setting scene.program.l scene.program.placed objects h
+          h.memory (h.words + suc (length ws))
           filled (λ i l. refl)) asked size waiting frames_fit) enough
           (λ fits. go (o ∷ []) (record {
             memory = store_words (tuple_header (length ws) ∷ ws) h.alloc h.memory;
             alloc = h.alloc + 8 * length (tuple_header (length ws) ∷ ws);
             words = h.words + length (tuple_header (length ws) ∷ ws);
-          }) (filled_more scene.meaning scene.setting scene.l scene.placed objects (o ∷ []) h
+          }) (filled_more scene.program.meaning scene.program.setting scene.program.l scene.program.placed objects
+          (o ∷ []) h
           (store_words (tuple_header (length ws) ∷ ws) h.alloc h.memory)
           (h.alloc + 8 * length (tuple_header (length ws) ∷ ws))
           (h.words + length (tuple_header (length ws) ∷ ws)) filled
@@ -156,7 +160,7 @@ module _ (scene : Scene) (world : WorldState) (h : Heap) (allowed : scene.allowe
             stored_words (tuple_header (length ws) ∷ ws) h.alloc h.memory
                 (header_small 4 (length ws) (omega arith) (omega (arith, long, most)), small),
             tt,
-          ) (scene.laws.keeps_more scene.l objects scene.number o (record {
+          ) (scene.program.laws.keeps_more scene.program.l objects scene.program.number o (record {
             kind = TupleKind;
             count = length ws;
             head = refl;
@@ -168,8 +172,9 @@ module _ (scene : Scene) (world : WorldState) (h : Heap) (allowed : scene.allowe
           h.alloc
           (set_local d h.alloc new) (
             ws,
-            inr (added_there scene.l.region objects o [] h.alloc filled.ends),
-            all_later scene.l scene.setting.address scene.procs scene.meaning scene.laws scene.places objects (o ∷ [])
+            inr (added_there scene.program.l.region objects o [] h.alloc filled.ends),
+            all_later scene.program.l scene.program.setting.address scene.program.procs scene.program.meaning
+                scene.program.laws scene.places objects (o ∷ [])
                 (in_row (values locals group os)) ws carried,
             omega (arith, long, most),
           ) (word_here d h.alloc new)
@@ -196,37 +201,39 @@ module _ (scene : Scene) (world : WorldState) (h : Heap) (allowed : scene.allowe
       let lt : t < size = omega (arith, room) in
       let head : ℕ = kind + 4294967296 * c in
       let first = set_local t head now in
-      computes scene.setting scene.P scene.Q calm head kind_mask kind (word_here t head now) refl
+      computes scene.program.setting scene.P scene.Q calm head kind_mask kind (word_here t head now) refl
       (kind_read kind c small) lt
-      (if_true scene.setting scene.P scene.Q calm kind (kind % 2 ^ 64) (word_here t kind first) refl
+      (if_true scene.program.setting scene.P scene.Q calm kind (kind % 2 ^ 64) (word_here t kind first) refl
       (same_number kind small)
       (go (set_local t kind first) (λ j ne. word_other t kind first j ne ∙ word_other t head now j ne)))
 
   pub is_of_kind : (o : LowSource) (x kind c : ℕ) (one other k : Code) (now : Locals) → kind < 256
       → word_of now o ≡ Some x
-      → WordThere scene.meaning scene.setting scene.l scene.placed h.memory x (kind + 4294967296 * c)
+      → WordThere scene.program.meaning scene.program.setting scene.program.l scene.program.placed h.memory x
+      (kind + 4294967296 * c)
       → ((new : Locals) → Changes (test_word s) now new
       → Arrives scene (at world h waiting size (k ∷ rests) new one))
-      → Moves scene.setting scene.P scene.Q (at world h waiting size rests now (of_kind s o kind one other k))
+      → Moves scene.program.setting scene.P scene.Q (at world h waiting size rests now (of_kind s o kind one other k))
   is_of_kind o x kind c one other k now small e there go =
       let head : ℕ = kind + 4294967296 * c in
       let none : x ≡ x + 0 = omega arith in
-      loads_first scene.setting scene.P scene.Q calm x head e
-      (subst (λ n. may_load scene.setting.top n ≡ true) none there.may)
+      loads_first scene.program.setting scene.P scene.Q calm x head e
+      (subst (λ n. may_load scene.program.setting.top n ≡ true) none there.may)
       (subst (λ n. load_bytes 8 h.memory n ≡ head) none there.is) (let z = there.end in omega arith)
       (omega (arith, room)) (after_load kind c one other k now small go)
 
   -- a part of a bare tuple
   pub takes_part : (o : Operand) (i d : ℕ) → operand_bound s.captured count depth o ≡ true → d < size → (k : Code)
-      → (vs : FlatValues scene.meaning.Cast) (v : FlatValue scene.meaning.Cast) → value locals group o ≡ RunTuple vs
+      → (vs : FlatValues scene.program.meaning.Cast) (v : FlatValue scene.program.meaning.Cast)
+      → value locals group o ≡ RunTuple vs
       → slice_get (row_list vs) i ≡ Some v → Puts d v k
-      → Arrives scene (at world h waiting size rests words (perform scene.run s d (Proj o (pos i)) k))
+      → Arrives scene (at world h waiting size rests words (perform scene.program.run s d (Proj o (pos i)) k))
   takes_part o i d bound lt k vs v is get go =
       let t = operand_word s 0 in
       let a = found s t o in
       fetch_reads scene world h allowed objects filled waiting size frames_fit rests s count group depth locals o t
       bound
-      (omega (arith, room)) words knows (part scene.run s d a (pos i) k)
+      (omega (arith, room)) words knows (part scene.program.run s d a (pos i) k)
       (λ x new carried found_is changed.
       taken x new (subst (λ u. Carries scene objects u x) is carried) found_is changed)
     where
@@ -237,7 +244,7 @@ module _ (scene : Scene) (world : WorldState) (h : Heap) (allowed : scene.allowe
       a = found s (operand_word s 0) o
 
       other : Code
-      other = Call d scene.run.project (found s (operand_word s 0) o ∷ Number i ∷ Number 1 ∷ Number 0 ∷ []) Done
+      other = Call d scene.program.run.project (found s (operand_word s 0) o ∷ Number i ∷ Number 1 ∷ Number 0 ∷ []) Done
 
       not_test : (j : ℕ) → Named s depth j → j ≢ test_word s
       not_test j (OwnName e) = λ z. omega (arith, z, e)
@@ -246,34 +253,39 @@ module _ (scene : Scene) (world : WorldState) (h : Heap) (allowed : scene.allowe
 
       taken : (x : ℕ) (new : Locals) → Carries scene objects (RunTuple vs) x → word_of new a ≡ Some x
           → Changes (operand_word s 0) words new
-          → Arrives scene (at world h waiting size rests new (part scene.run s d a (pos i) k))
+          → Arrives scene (at world h waiting size rests new (part scene.program.run s d a (pos i) k))
       taken x new c found_is changed =
-          let p = part_carried scene.l scene.setting.address scene.procs scene.meaning scene.laws scene.places objects
+          let p = part_carried scene.program.l scene.program.setting.address scene.program.procs scene.program.meaning
+          scene.program.laws scene.places objects
           vs c.0 i v
           c.2 get in
           let less : i < length c.0 = in_list c.0 i p.0 p.1 in
           let short : nat_lt i 8 ≡ true = lt_true i 8 (omega (arith, less, c.3)) in
-          let head = header_there scene.meaning scene.setting scene.l scene.placed objects h filled x
+          let head = header_there scene.program.meaning scene.program.setting scene.program.l scene.program.placed
+          objects h filled x
           (Fixed (tuple_header (length c.0)) c.0) c.1 in
-          let there = word_there scene.meaning scene.setting scene.l scene.placed objects h filled x
+          let there = word_there scene.program.meaning scene.program.setting scene.program.l scene.program.placed
+          objects h filled x
           (tuple_header (length c.0)) c.0 c.1
           (suc i) p.0 (x + (8 + 8 * i)) p.1 (omega arith) in
           subst (λ b. Arrives scene (at world h waiting size rests new (
           if b then of_kind s a (kind_number TupleKind) (Load d a (8 + 8 * i) Done) other k
-          else Call d scene.run.project (a ∷ Number (cast_unsigned w64 (pos i)) ∷ Number 1 ∷ Number 0 ∷ []) k)))
+          else Call d scene.program.run.project (a ∷ Number (cast_unsigned w64 (pos i)) ∷ Number 1 ∷ Number 0 ∷ []) k)))
           (sym short)
-          (comes_on scene.setting scene.P scene.Q (is_of_kind a x (kind_number TupleKind) (length c.0)
+          (comes_on scene.program.setting scene.P scene.Q (is_of_kind a x (kind_number TupleKind) (length c.0)
           (Load d a (8 + 8 * i) Done) other k new (omega arith) found_is
-          (subst (WordThere scene.meaning scene.setting scene.l scene.placed h.memory x) (header_is 4 (length c.0))
+          (subst (WordThere scene.program.meaning scene.program.setting scene.program.l scene.program.placed h.memory x)
+          (header_is 4 (length c.0))
           head)
           (λ last changed'.
           let same : SameNamed s depth new last = λ j named. changed' j (not_test j named) in
           let kept : last t ≡ new t = changed' t (λ e. omega (arith, e)) in
           let still = found_same scene world h allowed objects filled waiting size frames_fit rests s count group depth
           locals o t bound new last same kept in
-          loads scene.setting scene.P scene.Q calm x p.0 (still ∙ found_is) there.may there.is
+          loads scene.program.setting scene.P scene.Q calm x p.0 (still ∙ found_is) there.may there.is
           (let z = there.end in omega arith) lt
-          (falls_through scene.setting scene.P scene.Q calm (go p.0 (set_local d p.0 last) p.2 (word_here d p.0 last)
+          (falls_through scene.program.setting scene.P scene.Q calm (go p.0 (set_local d p.0 last) p.2
+          (word_here d p.0 last)
           (λ j ne side. word_other d p.0 last j ne
           ∙ (changed' j (not_computed s (test_word s) j (omega arith) (omega arith) side)
           ∙ changed j (not_computed s t j (omega arith) (omega arith) side))))))))

@@ -1,7 +1,7 @@
 -- The operators on integers and truth values that are done in place, and those that print.
 use Rattle.std.proofs.Common.{◌≡◌, ℕ, ℤ, ◌+◌, ◌^◌, ◌%◌, ◌<◌, ◌≤◌, Bool, true, false}
 use Rattle.std.proofs.Common.{List, [], ◌∷◌, length, Option, Some, None, refl, ap, ap₂, ◌∙◌, subst, arith}
-use Rattle.std.specs.Prelude.{◌+ℤ◌, ◌-ℤ◌, int_lt, not, if◌then◌else◌, codes}
+use Rattle.std.specs.Prelude.{◌==◌, ◌+ℤ◌, ◌-ℤ◌, int_lt, not, if◌then◌else◌, codes}
 use Rattle.std.specs.Int.{w64, cast_unsigned, cast_signed, int_wrap}
 use Rattle.std.specs.Fmt.{signed_decimal}
 use Rattle.std.specs.Ordering.{int_eq}
@@ -27,7 +27,6 @@ use Rattle.flat_ir.specs.Machine.{FlatValue, Group, Locals as FlatLocals, value,
 use Rattle.coercion_norm.specs.Objects.{Object}
 use Rattle.low_ir.specs.Frames.{frame_room, waiting_room}
 use Rattle.rt_cast.specs.States.{Heap}
-use Rattle.lower.specs.Storage.{Filled}
 use Rattle.lower.specs.declared.numbering.Shape.{Shape}
 use Rattle.lower.specs.Numbering.{operand_word, test_word}
 use Rattle.lower.specs.Emit.{found, fetch_all, found_all, turned, read_number}
@@ -53,7 +52,7 @@ use Rattle.lower.proofs.words.Steps.{lt_true, at, Calm, sets_word, computes, env
 use Rattle.lower.proofs.words.Steps.{falls_through, Comes, plain}
 use Rattle.low_ir.specs.Prices.{code_price, codes_price}
 use Rattle.lower.specs.SimulationServices.{product_price}
-use Rattle.lower.proofs.words.Scene.{Scene, Carries, CarryAll, Arrives}
+use Rattle.lower.proofs.words.Scene.{Scene, Carries, CarryAll, Arrives, Fills}
 use Rattle.lower.proofs.simulation.RelationKept.{word_here, word_other}
 use Rattle.lower.proofs.words.Operands.{ChangesFrom, KnowsHere, fetch_all_reads, both_words}
 use Rattle.lower.proofs.words.Operations.{Touches, Puts, beside, not_computed}
@@ -107,21 +106,39 @@ input_stops setting world h waiting size rests words t lt =
 serving_frame : (count : ℕ) → count ≤ 24 → (below room : ℕ) → 25 + below ≤ room → frame_room count + below ≤ room
 serving_frame count few below room le = grind (arith, few, le)
 
-module _ (scene : Scene) (world : WorldState) (h : Heap) (allowed : scene.allowed world h.words)
-    (objects : List Object)
-    (filled : Filled scene.meaning scene.setting scene.l scene.number objects h) (waiting : List Waiting) (size : ℕ)
-    (frames_fit : frame_room size + waiting_room waiting ≤ scene.room) (rests : List Code)
-    (s : Shape) (count : ℕ) (group : Group scene.meaning.Cast) (depth : ℕ) (locals : FlatLocals scene.meaning.Cast)
-    (room : s.params + 10 ≤ size) (words : Locals)
-    (knows : KnowsHere scene world h allowed objects filled waiting size frames_fit rests s count group depth locals
-    words) where
-  abbrev calm : Calm scene.setting scene.P scene.Q size waiting world h
+-- where a body stands as the code of an operator begins: the world, the heap and what fills it, the procedures that
+-- wait, the frame and what it knows of the values of names
+pub record Standing (scene : Scene) : Type 0 where
+  pub world : WorldState
+  pub h : Heap
+  pub allowed : scene.allowed world h.words
+  pub objects : List Object
+  pub filled : Fills scene.program objects h
+  pub waiting : List Waiting
+  pub size : ℕ
+  pub frames_fit : frame_room size + waiting_room waiting ≤ scene.room
+  pub rests : List Code
+  pub s : Shape
+  pub count : ℕ
+  pub group : Group scene.program.meaning.Cast
+  pub depth : ℕ
+  pub locals : FlatLocals scene.program.meaning.Cast
+  pub room : s.params + 10 ≤ size
+  pub words : Locals
+  pub knows : KnowsHere scene world h allowed objects filled waiting size frames_fit rests s count group depth locals
+      words
+
+module _ {scene : Scene} (standing : Standing scene) where
+  open standing use {world, h, allowed, objects, filled, waiting, size, frames_fit, rests}
+  open standing use {s, count, group, depth, locals, room, words, knows}
+
+  abbrev calm : Calm scene.program.setting scene.P scene.Q size waiting world h
   calm = scene.calm world h objects filled allowed size waiting frames_fit
 
   abbrev On : Locals → Code → Type 0
   On new code = Arrives scene (at world h waiting size rests new code)
 
-  abbrev PutsHere : ℕ → FlatValue scene.meaning.Cast → Code → Type 0
+  abbrev PutsHere : ℕ → FlatValue scene.program.meaning.Cast → Code → Type 0
   PutsHere d v k =
       Puts scene world h allowed objects filled waiting size frames_fit rests s count group depth locals room words
       knows d v k
@@ -176,27 +193,38 @@ module _ (scene : Scene) (world : WorldState) (h : Heap) (allowed : scene.allowe
       word_other d w new j ne ∙ changed j (beside s (operand_word s 0) n j (omega arith) (omega (arith, few)) side)
 
   -- a word is computed
-  pub computed : (op : WordOp) (d : ℕ) (a b : LowSource) (x y w n : ℕ) (v : FlatValue scene.meaning.Cast) (k : Code)
+  pub computed : (op : WordOp) (d : ℕ) (a b : LowSource) (x y w n : ℕ) (v : FlatValue scene.program.meaning.Cast)
+      (k : Code)
       (new : Locals) → word_of new a ≡ Some x → word_of new b ≡ Some y → compute op x y ≡ w
       → Carries scene objects v w → n ≤ 8 → ChangesFrom (operand_word s 0) n words new → d < size → PutsHere d v k
       → On new (Compute op d a b k)
   computed op d a b x y w n v k new ea eb made carried few changed lt go =
-      computes scene.setting scene.P scene.Q calm x y w ea eb made lt
+      computes scene.program.setting scene.P scene.Q calm x y w ea eb made lt
       (go w (set_local d w new) carried (word_here d w new) (touched d n new w few changed))
 
   -- and another one of it and 1
   pub computed_twice : (op then_op : WordOp) (d : ℕ) (a b : LowSource) (x y z w n : ℕ)
-      (v : FlatValue scene.meaning.Cast)
+      (v : FlatValue scene.program.meaning.Cast)
       (k : Code) (new : Locals) → word_of new a ≡ Some x → word_of new b ≡ Some y → compute op x y ≡ z
       → compute then_op z 1 ≡ w → Carries scene objects v w → n ≤ 8
       → ChangesFrom (operand_word s 0) n words new → d < size → PutsHere d v k
       → On new (Compute op d a b (Compute then_op d (Word d) (Number 1) k))
   computed_twice op then_op d a b x y z w n v k new ea eb first second carried few changed lt go =
       let mid = set_local d z new in
-      computes scene.setting scene.P scene.Q calm x y z ea eb first lt
-      (computes scene.setting scene.P scene.Q calm z 1 w (word_here d z new) refl second lt
+      computes scene.program.setting scene.P scene.Q calm x y z ea eb first lt
+      (computes scene.program.setting scene.P scene.Q calm z 1 w (word_here d z new) refl second lt
       (go w (set_local d w mid) carried (word_here d w mid)
       (λ j ne side. word_other d w mid j ne ∙ touched d n new z few changed j ne side)))
+
+  -- that the integer of one word isn't less than that of another
+  not_less : (d : ℕ) (x y : LowSource) (a b : ℤ) (k : Code) (new : Locals)
+      → word_of new x ≡ Some (cast_unsigned w64 a) → word_of new y ≡ Some (cast_unsigned w64 b) → int_wrap w64 a ≡ a
+      → int_wrap w64 b ≡ b → ChangesFrom (operand_word s 0) 2 words new → d < size
+      → PutsHere d (RunBool (not (int_lt a b))) k → On new (Compute Slt d x y (turned d k))
+  not_less d x y a b k new xa yb fa fb changed lt go =
+      computed_twice Slt Xor d x y (cast_unsigned w64 a) (cast_unsigned w64 b) (flag (int_lt a b))
+      (flag (not (int_lt a b))) 2 (RunBool (not (int_lt a b))) k new xa yb (less_made a b fa fb)
+      (turned_made (int_lt a b)) refl (omega arith) changed lt go
 
   module _ (o p : Operand) (a b : ℤ) (ea : value locals group o ≡ RunInt a) (eb : value locals group p ≡ RunInt b)
       (bound : operands_bound s.captured count depth (o ∷ p ∷ []) ≡ true) (d : ℕ) (lt : d < size) (k : Code) where
@@ -238,17 +266,13 @@ module _ (scene : Scene) (world : WorldState) (h : Heap) (allowed : scene.allowe
         → On words (fetch_all s 0 (o ∷ p ∷ []) (Compute Slt d y x (turned d k)))
     at_most go =
         ints_read o p a b ea eb bound (Compute Slt d y x (turned d k))
-        (λ new xa yb fa fb changed. computed_twice Slt Xor d y x (cast_unsigned w64 b) (cast_unsigned w64 a)
-        (flag (int_lt b a)) (flag (not (int_lt b a))) 2 (RunBool (not (int_lt b a))) k new yb xa (less_made b a fb fa)
-        (turned_made (int_lt b a)) refl (omega arith) changed lt go)
+        (λ new xa yb fa fb changed. not_less d y x b a k new yb xa fb fa changed lt go)
 
     pub at_least : PutsHere d (RunBool (not (int_lt a b))) k
         → On words (fetch_all s 0 (o ∷ p ∷ []) (Compute Slt d x y (turned d k)))
     at_least go =
         ints_read o p a b ea eb bound (Compute Slt d x y (turned d k))
-        (λ new xa yb fa fb changed. computed_twice Slt Xor d x y (cast_unsigned w64 a) (cast_unsigned w64 b)
-        (flag (int_lt a b)) (flag (not (int_lt a b))) 2 (RunBool (not (int_lt a b))) k new xa yb (less_made a b fa fb)
-        (turned_made (int_lt a b)) refl (omega arith) changed lt go)
+        (λ new xa yb fa fb changed. not_less d x y a b k new xa yb fa fb changed lt go)
 
     pub equal : PutsHere d (RunBool (int_eq a b)) k
         → On words (fetch_all s 0 (o ∷ p ∷ []) (Compute Xor d x y (Compute Sltu d (Word d) (Number 1) k)))
@@ -283,7 +307,8 @@ module _ (scene : Scene) (world : WorldState) (h : Heap) (allowed : scene.allowe
   set_unit world' allowed' d a0 a1 n k new few changed lt go =
       let t = test_word s in
       let mid = set_local t a1 (set_local t a0 new) in
-      sets_word scene.setting scene.P scene.Q (scene.calm world' h objects filled allowed' size waiting frames_fit) 0
+      sets_word scene.program.setting scene.P scene.Q (scene.calm world' h objects filled allowed' size waiting
+      frames_fit) 0
       refl lt
       (go (set_local d 0 mid) (word_here d 0 mid)
       (λ j ne side. word_other d 0 mid j ne
@@ -302,8 +327,8 @@ module _ (scene : Scene) (world : WorldState) (h : Heap) (allowed : scene.allowe
       (λ x new carried is changed.
       let c = subst (λ v. Carries scene objects v x) e carried in
       let read : cast_signed w64 x ≡ a = ap (cast_signed w64) c.0 ∙ word_read a c.1 in
-      environment_goes scene.setting scene.P scene.Q calm x 0 x 0 (printing (signed_decimal a) world) is refl
-      (prints x 0 (length scene.setting.labels) world
+      environment_goes scene.program.setting scene.P scene.Q calm x 0 x 0 (printing (signed_decimal a) world) is refl
+      (prints x 0 (length scene.program.setting.labels) world
       ∙ ap (λ z. record { effect = GoesOn x 0; world = printing (signed_decimal z) world }) read)
       (omega (arith, room)) (omega (arith, room))
       (set_unit (printing (signed_decimal a) world) allowed' d x 0 1 k new (omega arith) changed lt go))
@@ -312,8 +337,8 @@ module _ (scene : Scene) (world : WorldState) (h : Heap) (allowed : scene.allowe
       → PutsIn (printing (codes "\n") world) d k
       → On words (Environment 2 (Number 10) (Number 0) (test_word s) (test_word s) (Set d (Number 0) k))
   prints_newline d lt k allowed' go =
-      environment_goes scene.setting scene.P scene.Q calm 10 0 10 0 (printing (codes "\n") world) refl refl
-      (prints_line (length scene.setting.labels) world) (omega (arith, room)) (omega (arith, room))
+      environment_goes scene.program.setting scene.P scene.Q calm 10 0 10 0 (printing (codes "\n") world) refl refl
+      (prints_line (length scene.program.setting.labels) world) (omega (arith, room)) (omega (arith, room))
       (set_unit (printing (codes "\n") world) allowed' d 10 0 0 k words (omega arith) (λ j side. refl) lt go)
 
   -- ---- reading
@@ -342,11 +367,11 @@ module _ (scene : Scene) (world : WorldState) (h : Heap) (allowed : scene.allowe
       let o = operand_word s 0 in
       let calm' = scene.calm (past_run world) h objects filled allowed' size waiting frames_fit in
       let new = called_back x 0 in
-      environment_goes scene.setting scene.P scene.Q calm 0 0 x 0 (past_run world) refl refl
-      (reads_next (length scene.setting.labels) world (Some a) e) (omega (arith, room)) (omega (arith, room))
-      (if_false scene.setting scene.P scene.Q calm' 0 0 (word_here t 0 (set_local o x words)) refl refl
-      (falls_through scene.setting scene.P scene.Q calm'
-      (sets_word scene.setting scene.P scene.Q calm' x (number_there x 0) lt
+      environment_goes scene.program.setting scene.P scene.Q calm 0 0 x 0 (past_run world) refl refl
+      (reads_next (length scene.program.setting.labels) world (Some a) e) (omega (arith, room)) (omega (arith, room))
+      (if_false scene.program.setting scene.P scene.Q calm' 0 0 (word_here t 0 (set_local o x words)) refl refl
+      (falls_through scene.program.setting scene.P scene.Q calm'
+      (sets_word scene.program.setting scene.P scene.Q calm' x (number_there x 0) lt
       (go (set_local d x new) (word_here d x new)
       (λ j ne side. word_other d x new j ne
       ∙ (word_other t 0 (set_local o x words) j (not_computed s t j (omega arith) (omega arith) side)
@@ -361,105 +386,108 @@ module _ (scene : Scene) (world : WorldState) (h : Heap) (allowed : scene.allowe
       let t = test_word s in
       let o = operand_word s 0 in
       let calm' = scene.calm (past_white world) h objects filled allowed' size waiting frames_fit in
-      environment_goes scene.setting scene.P scene.Q calm 0 0 0 1 (past_white world) refl refl
-      (reads_next (length scene.setting.labels) world None e) (omega (arith, room)) (omega (arith, room))
-      (if_true scene.setting scene.P scene.Q calm' 1 0 (word_here t 1 (set_local o 0 words)) refl refl c)
+      environment_goes scene.program.setting scene.P scene.Q calm 0 0 0 1 (past_white world) refl refl
+      (reads_next (length scene.program.setting.labels) world None e) (omega (arith, room)) (omega (arith, room))
+      (if_true scene.program.setting scene.P scene.Q calm' 1 0 (word_here t 1 (set_local o 0 words)) refl refl c)
 
   -- ---- products, quotients and remainders, by the procedures that serve
 
-  module _ (products : AnswerProducts scene.setting scene.run) (o p : Operand) (a b : ℤ)
+  module _ (products : AnswerProducts scene.program.setting scene.program.run) (o p : Operand) (a b : ℤ)
       (ea : value locals group o ≡ RunInt a) (eb : value locals group p ≡ RunInt b)
       (bound : operands_bound s.captured count depth (o ∷ p ∷ []) ≡ true) (d : ℕ) (k : Code)
       (spare : product_price + 28 ≤ scene.Q.extra)
       (serves_fit : 25 + (frame_room size + waiting_room waiting) ≤ scene.room) where
     -- on the way of the procedures that serve
     serving : (new : Locals)
-        → CalmServing scene.setting scene.P scene.Q (waiting_for d size rests new k ∷ waiting) world h
+        → CalmServing scene.program.setting scene.P scene.Q (waiting_for d size rests new k ∷ waiting) world h
     serving new n few =
         scene.calm world h objects filled allowed n (waiting_for d size rests new k ∷ waiting)
         (serving_frame n few (frame_room size + waiting_room waiting) scene.room serves_fit)
 
     -- what comes behind may cost what is left to pay alone
-    abbrev pub PutsPlain : FlatValue scene.meaning.Cast → Type 0
+    abbrev pub PutsPlain : FlatValue scene.program.meaning.Cast → Type 0
     PutsPlain v =
         (w : ℕ) (new : Locals) → Carries scene objects v w → new d ≡ Some w → Touches s d words new
-        → Comes scene.setting scene.P (plain scene.Q) (at world h waiting size rests new k)
+        → Comes scene.program.setting scene.P (plain scene.Q) (at world h waiting size rests new k)
 
     pub multiplies : d < size → PutsPlain (RunInt (int_wrap w64 (a *ℤ b)))
-        → On words (fetch_all s 0 (o ∷ p ∷ []) (Call d scene.run.multiply
+        → On words (fetch_all s 0 (o ∷ p ∷ []) (Call d scene.program.run.multiply
         (found s (operand_word s 0) o ∷ found s (operand_word s 1) p ∷ []) k))
     multiplies lt go =
-        ints_read o p a b ea eb bound (Call d scene.run.multiply
+        ints_read o p a b ea eb bound (Call d scene.program.run.multiply
         (found s (operand_word s 0) o ∷ found s (operand_word s 1) p ∷ []) k)
         (λ new xa yb fa fb changed.
         let w = cast_unsigned w64 (int_wrap w64 (a *ℤ b)) in
         let q = products.products (at world h (waiting_for d size rests new k ∷ waiting) size rests new k)
         (cast_unsigned w64 a) (cast_unsigned w64 b) (word_small a fa) (word_small b fb) in
-        answered_by scene.setting scene.P scene.Q calm 2 (cast_unsigned w64 a ∷ cast_unsigned w64 b ∷ [])
+        answered_by scene.program.setting scene.P scene.Q calm 2 (cast_unsigned w64 a ∷ cast_unsigned w64 b ∷ [])
         products.multiply w q.0 product_price (serving new) (rw (xa, yb) refl) products.multiply_stands refl lt
-        (subst (λ n. AnswersFor ending_of scene.setting
+        (subst (λ n. AnswersFor ending_of scene.program.setting
         (at world h (waiting_for d size rests new k ∷ waiting) size rests new k) products.multiply
         (cast_unsigned w64 a ∷ cast_unsigned w64 b ∷ []) n q.0 product_price) (product_made a b fa fb) q.1)
         spare
         (go w (set_local d w new) (refl, wraps_once (a *ℤ b)) (word_here d w new)
         (touched d 2 new w (omega arith) changed)))
 
-    pub divides : int_eq b (pos 0) ≡ false → d < size → PutsPlain (RunInt (int_wrapping_div w64 a b))
-        → On words (fetch_all s 0 (o ∷ p ∷ []) (Call d scene.run.divide
-        (found s (operand_word s 0) o ∷ found s (operand_word s 1) p ∷ Number 0 ∷ []) k))
-    divides some lt go =
-        ints_read o p a b ea eb bound (Call d scene.run.divide
-        (found s (operand_word s 0) o ∷ found s (operand_word s 1) p ∷ Number 0 ∷ []) k)
+    -- an answer of the procedure that divides, by which of its answers is asked for
+    by_division : (which : ℕ) → which < 2 ^ 64 → (answer : ℤ → ℤ → ℤ)
+        → ((t : LowState) (n m : ℕ) → n < 2 ^ 64 → m < 2 ^ 64 → (m == 0) ≡ false
+        → (most : ℕ) × AnswersFor ending_of scene.program.setting t products.divide (n ∷ m ∷ which ∷ [])
+        (cast_unsigned w64 (answer (cast_signed w64 n) (cast_signed w64 m))) most product_price)
+        → (int_wrap w64 b ≡ b → int_wrap w64 (answer a b) ≡ answer a b) → int_eq b (pos 0) ≡ false → d < size
+        → PutsPlain (RunInt (answer a b))
+        → On words (fetch_all s 0 (o ∷ p ∷ []) (Call d scene.program.run.divide
+        (found s (operand_word s 0) o ∷ found s (operand_word s 1) p ∷ Number which ∷ []) k))
+    by_division which small answer answers wraps some lt go =
+        ints_read o p a b ea eb bound (Call d scene.program.run.divide
+        (found s (operand_word s 0) o ∷ found s (operand_word s 1) p ∷ Number which ∷ []) k)
         (λ new xa yb fa fb changed.
-        let w = cast_unsigned w64 (int_wrapping_div w64 a b) in
-        let q = products.quotients (at world h (waiting_for d size rests new k ∷ waiting) size rests new k)
+        let w = cast_unsigned w64 (answer a b) in
+        let third : which % 2 ^ 64 ≡ which = mod-eq_of_lt small in
+        let q = answers (at world h (waiting_for d size rests new k ∷ waiting) size rests new k)
         (cast_unsigned w64 a) (cast_unsigned w64 b) (word_small a fa) (word_small b fb) (some_divisor b fb some) in
-        answered_by scene.setting scene.P scene.Q calm 3 (cast_unsigned w64 a ∷ cast_unsigned w64 b ∷ 0 ∷ [])
-        products.divide w q.0 product_price (serving new) (rw (xa, yb) refl) products.divide_stands refl lt
-        (subst (λ n. AnswersFor ending_of scene.setting
+        answered_by scene.program.setting scene.P scene.Q calm 3 (cast_unsigned w64 a ∷ cast_unsigned w64 b ∷ which ∷
+        [])
+        products.divide w q.0 product_price (serving new) (rw (xa, yb, third) refl) products.divide_stands refl lt
+        (subst (λ n. AnswersFor ending_of scene.program.setting
         (at world h (waiting_for d size rests new k ∷ waiting) size rests new k) products.divide
-        (cast_unsigned w64 a ∷ cast_unsigned w64 b ∷ 0 ∷ []) n q.0 product_price)
-        (ap₂ (λ x y. cast_unsigned w64 (int_wrapping_div w64 x y)) (word_read a fa) (word_read b fb)) q.1) spare
-        (go w (set_local d w new) (refl, quotient_wraps a b) (word_here d w new)
-        (touched d 2 new w (omega arith) changed)))
+        (cast_unsigned w64 a ∷ cast_unsigned w64 b ∷ which ∷ []) n q.0 product_price)
+        (ap₂ (λ x y. cast_unsigned w64 (answer x y)) (word_read a fa) (word_read b fb)) q.1) spare
+        (go w (set_local d w new) (refl, wraps fb) (word_here d w new) (touched d 2 new w (omega arith) changed)))
+
+    pub divides : int_eq b (pos 0) ≡ false → d < size → PutsPlain (RunInt (int_wrapping_div w64 a b))
+        → On words (fetch_all s 0 (o ∷ p ∷ []) (Call d scene.program.run.divide
+        (found s (operand_word s 0) o ∷ found s (operand_word s 1) p ∷ Number 0 ∷ []) k))
+    divides =
+        by_division 0 (omega arith) (int_wrapping_div w64) products.quotients (λ fits. quotient_wraps a b)
 
     pub leaves : int_eq b (pos 0) ≡ false → d < size → PutsPlain (RunInt (int_rem a b))
-        → On words (fetch_all s 0 (o ∷ p ∷ []) (Call d scene.run.divide
+        → On words (fetch_all s 0 (o ∷ p ∷ []) (Call d scene.program.run.divide
         (found s (operand_word s 0) o ∷ found s (operand_word s 1) p ∷ Number 1 ∷ []) k))
-    leaves some lt go =
-        ints_read o p a b ea eb bound (Call d scene.run.divide
-        (found s (operand_word s 0) o ∷ found s (operand_word s 1) p ∷ Number 1 ∷ []) k)
-        (λ new xa yb fa fb changed.
-        let w = cast_unsigned w64 (int_rem a b) in
-        let q = products.remainders (at world h (waiting_for d size rests new k ∷ waiting) size rests new k)
-        (cast_unsigned w64 a) (cast_unsigned w64 b) (word_small a fa) (word_small b fb) (some_divisor b fb some) in
-        answered_by scene.setting scene.P scene.Q calm 3 (cast_unsigned w64 a ∷ cast_unsigned w64 b ∷ 1 ∷ [])
-        products.divide w q.0 product_price (serving new) (rw (xa, yb) refl) products.divide_stands refl lt
-        (subst (λ n. AnswersFor ending_of scene.setting
-        (at world h (waiting_for d size rests new k ∷ waiting) size rests new k) products.divide
-        (cast_unsigned w64 a ∷ cast_unsigned w64 b ∷ 1 ∷ []) n q.0 product_price)
-        (ap₂ (λ x y. cast_unsigned w64 (int_rem x y)) (word_read a fa) (word_read b fb)) q.1) spare
-        (go w (set_local d w new) (refl, remainder_wraps a b fb some) (word_here d w new)
-        (touched d 2 new w (omega arith) changed)))
+    leaves some =
+        by_division 1 (omega arith) int_rem products.remainders (λ fits. remainder_wraps a b fits some) some
 
     -- a divisor 0 traps, where that is what the run is to come to
     pub traps : (which : ℕ) → which < 2 ^ 64 → int_eq b (pos 0) ≡ true
-        → scene.Q.floor ≤ code_price scene.setting.procs size k + codes_price scene.setting.procs size rests
+        → scene.Q.floor ≤ code_price scene.program.setting.procs size k + codes_price scene.program.setting.procs size
+        rests
         → ((new : Locals) (t : LowState)
-        → TrapsNext ending_of scene.setting ZeroDivisor
+        → TrapsNext ending_of scene.program.setting ZeroDivisor
         (at world h (waiting_for d size rests new k ∷ waiting) size rests new k) t
-        → scene.Q.holds (code_price scene.setting.procs size k + codes_price scene.setting.procs size rests) t)
-        → On words (fetch_all s 0 (o ∷ p ∷ []) (Call d scene.run.divide
+        → scene.Q.holds (code_price scene.program.setting.procs size k + codes_price scene.program.setting.procs size
+        rests) t)
+        → On words (fetch_all s 0 (o ∷ p ∷ []) (Call d scene.program.run.divide
         (found s (operand_word s 0) o ∷ found s (operand_word s 1) p ∷ Number which ∷ []) k))
     traps which small none least go =
-        ints_read o p a b ea eb bound (Call d scene.run.divide
+        ints_read o p a b ea eb bound (Call d scene.program.run.divide
         (found s (operand_word s 0) o ∷ found s (operand_word s 1) p ∷ Number which ∷ []) k)
         (λ new xa yb fa fb changed.
         let zeroth : word_of new (found s (operand_word s 1) p) ≡ Some 0 = yb ∙ ap Some (no_divisor b fb none) in
         let third : Some (which % 2 ^ 64) ≡ Some which = ap Some (mod-eq_of_lt small) in
         let q = products.zero_divisors (at world h (waiting_for d size rests new k ∷ waiting) size rests new k)
         (cast_unsigned w64 a) which in
-        traps_by scene.setting scene.P scene.Q calm 3 (cast_unsigned w64 a ∷ 0 ∷ which ∷ []) products.divide ZeroDivisor
+        traps_by scene.program.setting scene.P scene.Q calm 3 (cast_unsigned w64 a ∷ 0 ∷ which ∷ []) products.divide
+        ZeroDivisor
         q.0 product_price (serving new)
         (both_words (word_of new (found s (operand_word s 0) o))
         (words_of new (found s (operand_word s 1) p ∷ Number which ∷ [])) (cast_unsigned w64 a) (0 ∷ which ∷ []) xa

@@ -1,7 +1,7 @@
 -- Steps of the run over words, in the style of "and then": each lemma puts a step in front of what comes after it. What
 -- they cost is told by what is left to pay of the procedure, so no lemma on code speaks of prices.
 use Rattle.std.proofs.Common.{◌≡◌, ◌⊎◌, inl, inr, ℕ, ◌+◌, ◌*◌, ◌^◌, ◌%◌, ◌<◌, ◌≤◌, Bool, true, false, List}
-use Rattle.std.proofs.Common.{[], ◌∷◌, Some, refl, ap, ◌∙◌, arith, length, le_refl}
+use Rattle.std.proofs.Common.{[], ◌∷◌, Some, refl, ap, ◌∙◌, subst, arith, length, le_refl}
 use Rattle.std.specs.Prelude.{◌==◌, ◌&&◌, nat_lt, nat_le, slice_get, pos, max, if◌then◌else◌}
 use Rattle.run_laws.specs.Runs.{Exhausted}
 use Rattle.run_laws.specs.Machines.{Go, Stop, Machine}
@@ -83,6 +83,11 @@ pub either_branch : (n a b k r : ℕ) (c : Bool) → n + ((if c then a else b) +
 either_branch n a b k r true = grind arith
 either_branch n a b k r false = grind arith
 
+chosen : (price : Code → ℕ) (one other : Code) (c : Bool)
+    → (if c then price one else price other) ≡ price (if c then one else other)
+chosen price one other true = refl
+chosen price one other false = refl
+
 abbrev pub left_of : Setting → LowState → ℕ
 left_of setting t = left_to_pay setting.procs t.active
 
@@ -99,13 +104,17 @@ module _ (setting : Setting) (count : ℕ) (rests : List Code) where
   -- to one of two branches
   branch : (cond : Cond) (a b : LowSource) (one other rest : Code) (c : Bool)
       → step_price setting.procs count (If cond a b one other rest)
-      + ((if c then code_price setting.procs count one else code_price setting.procs count other)
+      + (code_price setting.procs count (if c then one else other)
       + (code_price setting.procs count rest + codes_price setting.procs count rests))
       ≤ code_price setting.procs count (If cond a b one other rest) + codes_price setting.procs count rests
   branch cond a b one other rest c =
-      either_branch (step_price setting.procs count (If cond a b one other rest)) (code_price setting.procs count one)
+      subst (λ n. step_price setting.procs count (If cond a b one other rest)
+      + (n + (code_price setting.procs count rest + codes_price setting.procs count rests))
+      ≤ code_price setting.procs count (If cond a b one other rest) + codes_price setting.procs count rests)
+      (chosen (code_price setting.procs count) one other c)
+      (either_branch (step_price setting.procs count (If cond a b one other rest)) (code_price setting.procs count one)
       (code_price setting.procs count other) (code_price setting.procs count rest)
-      (codes_price setting.procs count rests) c
+      (codes_price setting.procs count rests) c)
 
 module _ (setting : Setting) (P : LowState → Type 0) (Q : Goal) where
   abbrev pub N : Machine LowState LowShown Verdict
@@ -283,21 +292,26 @@ module _ (setting : Setting) (P : LowState → Type 0) (Q : Goal) where
         ∙ ap (λ b. only_if next b (Go t')) m))
         ) (behind setting count rests (Store b a offset rest) rest) c
 
+    -- a branch, by the answer of its test
+    if_so : {cond : Cond} {a b : LowSource} {one other rest : Code} (x y : ℕ) (so : Bool) → word_of locals a ≡ Some x
+        → word_of locals b ≡ Some y → holds cond x y ≡ so
+        → Comes (at world h waiting count (rest ∷ rests) locals (if so then one else other))
+        → Comes (at world h waiting count rests locals (If cond a b one other rest))
+    if_so {cond = cond} {a = a} {b = b} {one = one} {other = other} {rest = rest} x y so e f g c =
+        within (If cond a b one other rest) (at world h waiting count (rest ∷ rests) locals (if so then one else other))
+        (rw (e, f, g) refl) (branch setting count rests cond a b one other rest so) c
+
     pub if_true : {cond : Cond} {a b : LowSource} {one other rest : Code} (x y : ℕ) → word_of locals a ≡ Some x
         → word_of locals b ≡ Some y → holds cond x y ≡ true
         → Comes (at world h waiting count (rest ∷ rests) locals one)
         → Comes (at world h waiting count rests locals (If cond a b one other rest))
-    if_true {cond = cond} {a = a} {b = b} {one = one} {other = other} {rest = rest} x y e f g c =
-        within (If cond a b one other rest) (at world h waiting count (rest ∷ rests) locals one) (rw (e, f, g) refl)
-        (branch setting count rests cond a b one other rest true) c
+    if_true x y = if_so x y true
 
     pub if_false : {cond : Cond} {a b : LowSource} {one other rest : Code} (x y : ℕ) → word_of locals a ≡ Some x
         → word_of locals b ≡ Some y → holds cond x y ≡ false
         → Comes (at world h waiting count (rest ∷ rests) locals other)
         → Comes (at world h waiting count rests locals (If cond a b one other rest))
-    if_false {cond = cond} {a = a} {b = b} {one = one} {other = other} {rest = rest} x y e f g c =
-        within (If cond a b one other rest) (at world h waiting count (rest ∷ rests) locals other) (rw (e, f, g) refl)
-        (branch setting count rests cond a b one other rest false) c
+    if_false x y = if_so x y false
 
     pub code_addresses : {d k : ℕ} {rest : Code} (p : Proc) → slice_get setting.procs k ≡ Some p → d < count
         → Comes (at world h waiting count rests (set_local d (setting.address k) locals) rest)

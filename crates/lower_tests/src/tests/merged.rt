@@ -377,199 +377,108 @@ pub(crate) struct Program {
 
 const BOXES: &[Program] = &[
     // what is written through a proxy stands in the box
-    Program {
-        turns: &[
-            Does(MakeBox, &[Int(40)]),
-            Cast(Local(0), BOX),
-            Cast(Int(42), INT_IN),
-            Does(BoxSet, &[Local(1), Local(2)]),
-        ],
-        last: Does(Unbox, &[Local(0)]),
-        end: Answers(42),
-    },
+    program!(
+        Does(MakeBox, &[Int(40)]), Cast(Local(0), BOX), Cast(Int(42), INT_IN),
+        Does(BoxSet, &[Local(1), Local(2)]); Does(Unbox, &[Local(0)]) => Answers(42)
+    ),
     // what is read through a proxy is in Dyn
-    Program {
-        turns: &[
-            Does(MakeBox, &[Int(7)]),
-            Cast(Local(0), BOX),
-            Does(Unbox, &[Local(1)]),
-        ],
-        last: Cast(Local(2), INT_OUT),
-        end: Answers(7),
-    },
+    program!(
+        Does(MakeBox, &[Int(7)]), Cast(Local(0), BOX), Does(Unbox, &[Local(1)]);
+        Cast(Local(2), INT_OUT) => Answers(7)
+    ),
     // a truth value that is written blames the cast of the box
-    Program {
-        turns: &[
-            Does(MakeBox, &[Int(1)]),
-            Cast(Local(0), BOX),
-            Cast(Bool(true), BOOL_IN),
-            Does(BoxSet, &[Local(1), Local(2)]),
-        ],
-        last: Does(Unbox, &[Local(0)]),
-        end: Blames(BOX),
-    },
+    program!(
+        Does(MakeBox, &[Int(1)]), Cast(Local(0), BOX), Cast(Bool(true), BOOL_IN),
+        Does(BoxSet, &[Local(1), Local(2)]); Does(Unbox, &[Local(0)]) => Blames(BOX)
+    ),
     // the second cast undoes the first: no proxy is left, and what is written stands in the box
-    Program {
-        turns: &[
-            Does(MakeBox, &[Int(5)]),
-            Cast(Local(0), BOX),
-            Cast(Local(1), BOX_BACK),
-            Does(BoxSet, &[Local(2), Int(6)]),
-        ],
-        last: Does(Unbox, &[Local(2)]),
-        end: Answers(6),
-    },
+    program!(
+        Does(MakeBox, &[Int(5)]), Cast(Local(0), BOX), Cast(Local(1), BOX_BACK),
+        Does(BoxSet, &[Local(2), Int(6)]); Does(Unbox, &[Local(2)]) => Answers(6)
+    ),
     // what is read through two casts that became one is blamed by the one that wants a truth value
-    Program {
-        turns: &[
-            Does(MakeBox, &[Int(5)]),
-            Cast(Local(0), BOX),
-            Cast(Local(1), BOX_OF_TRUTH),
-        ],
-        last: Does(Unbox, &[Local(2)]),
-        end: Blames(BOX_OF_TRUTH),
-    },
+    program!(
+        Does(MakeBox, &[Int(5)]), Cast(Local(0), BOX), Cast(Local(1), BOX_OF_TRUTH);
+        Does(Unbox, &[Local(2)]) => Blames(BOX_OF_TRUTH)
+    ),
     // a box goes into Dyn at its type, and comes out at another
-    Program {
-        turns: &[
-            Does(MakeBox, &[Int(5)]),
-            Cast(Local(0), BOX_IN),
-            Cast(Local(1), BOX_OUT),
-            Does(Unbox, &[Local(2)]),
-        ],
-        last: Cast(Local(3), INT_OUT),
-        end: Answers(5),
-    },
+    program!(
+        Does(MakeBox, &[Int(5)]), Cast(Local(0), BOX_IN), Cast(Local(1), BOX_OUT),
+        Does(Unbox, &[Local(2)]); Cast(Local(3), INT_OUT) => Answers(5)
+    ),
     // a box that is in Dyn is no integer
-    Program {
-        turns: &[Does(MakeBox, &[Int(5)]), Cast(Local(0), BOX_IN)],
-        last: Cast(Local(1), INT_OUT),
-        end: Blames(INT_OUT),
-    },
+    program!(
+        Does(MakeBox, &[Int(5)]), Cast(Local(0), BOX_IN); Cast(Local(1), INT_OUT) => Blames(INT_OUT)
+    ),
 ];
 
 const VECTORS: &[Program] = &[
-    Program {
-        turns: &[
-            Does(MakeVector, &[Int(3), Int(5)]),
-            Cast(Local(0), VECTOR),
-            Cast(Int(9), INT_IN),
-            Does(VectorSet, &[Local(1), Int(1), Local(2)]),
-            Does(VectorRef, &[Local(1), Int(1)]),
-        ],
-        last: Cast(Local(4), INT_OUT),
-        end: Answers(9),
-    },
-    Program {
-        turns: &[Does(MakeVector, &[Int(3), Int(5)]), Cast(Local(0), VECTOR)],
-        last: Does(VectorLength, &[Local(1)]),
-        end: Answers(3),
-    },
+    program!(
+        Does(MakeVector, &[Int(3), Int(5)]), Cast(Local(0), VECTOR), Cast(Int(9), INT_IN),
+        Does(VectorSet, &[Local(1), Int(1), Local(2)]), Does(VectorRef, &[Local(1), Int(1)]);
+        Cast(Local(4), INT_OUT) => Answers(9)
+    ),
+    program!(
+        Does(MakeVector, &[Int(3), Int(5)]), Cast(Local(0), VECTOR);
+        Does(VectorLength, &[Local(1)]) => Answers(3)
+    ),
     // the index is tested before the value that is written is cast
-    Program {
-        turns: &[
-            Does(MakeVector, &[Int(3), Int(5)]),
-            Cast(Local(0), VECTOR),
-            Cast(Bool(true), BOOL_IN),
-            Does(VectorSet, &[Local(1), Int(3), Local(2)]),
-        ],
-        last: Does(VectorLength, &[Local(1)]),
-        end: Traps(Trap::Index),
-    },
+    program!(
+        Does(MakeVector, &[Int(3), Int(5)]), Cast(Local(0), VECTOR), Cast(Bool(true), BOOL_IN),
+        Does(VectorSet, &[Local(1), Int(3), Local(2)]);
+        Does(VectorLength, &[Local(1)]) => Traps(Trap::Index)
+    ),
 ];
 
 const VECTOR_BLAMES: &[Program] = &[
-    Program {
-        turns: &[
-            Does(MakeVector, &[Int(3), Int(5)]),
-            Cast(Local(0), VECTOR),
-            Cast(Bool(true), BOOL_IN),
-            Does(VectorSet, &[Local(1), Int(0), Local(2)]),
-        ],
-        last: Does(VectorLength, &[Local(1)]),
-        end: Blames(VECTOR),
-    },
-    Program {
-        turns: &[Does(MakeVector, &[Int(3), Int(5)]), Cast(Local(0), VECTOR)],
-        last: Does(VectorRef, &[Local(1), Int(-1)]),
-        end: Traps(Trap::Index),
-    },
-    Program {
-        turns: &[Does(MakeVector, &[Int(3), Int(5)]), Cast(Local(0), VECTOR)],
-        last: Does(VectorRef, &[Local(1), Int(3)]),
-        end: Traps(Trap::Index),
-    },
+    program!(
+        Does(MakeVector, &[Int(3), Int(5)]), Cast(Local(0), VECTOR), Cast(Bool(true), BOOL_IN),
+        Does(VectorSet, &[Local(1), Int(0), Local(2)]);
+        Does(VectorLength, &[Local(1)]) => Blames(VECTOR)
+    ),
+    program!(
+        Does(MakeVector, &[Int(3), Int(5)]), Cast(Local(0), VECTOR);
+        Does(VectorRef, &[Local(1), Int(-1)]) => Traps(Trap::Index)
+    ),
+    program!(
+        Does(MakeVector, &[Int(3), Int(5)]), Cast(Local(0), VECTOR);
+        Does(VectorRef, &[Local(1), Int(3)]) => Traps(Trap::Index)
+    ),
 ];
 
 const TUPLES: &[Program] = &[
-    Program {
-        turns: &[
-            Tuple(&[Int(4), Int(6)]),
-            Cast(Local(0), PAIR),
-            Part(Local(1), 1),
-        ],
-        last: Cast(Local(2), INT_OUT),
-        end: Answers(6),
-    },
-    Program {
-        turns: &[
-            Tuple(&[Int(4), Int(6)]),
-            Cast(Local(0), PAIR_IN),
-            PartOfDyn(Local(1), 0),
-        ],
-        last: Cast(Local(2), INT_OUT),
-        end: Answers(4),
-    },
-    Program {
-        turns: &[
-            Tuple(&[Int(4), Int(6)]),
-            Cast(Local(0), PAIR_IN),
-            PartOfDyn(Local(1), 2),
-        ],
-        last: Cast(Local(2), INT_OUT),
-        end: Blames(OF_PART),
-    },
+    program!(
+        Tuple(&[Int(4), Int(6)]), Cast(Local(0), PAIR), Part(Local(1), 1);
+        Cast(Local(2), INT_OUT) => Answers(6)
+    ),
+    program!(
+        Tuple(&[Int(4), Int(6)]), Cast(Local(0), PAIR_IN), PartOfDyn(Local(1), 0);
+        Cast(Local(2), INT_OUT) => Answers(4)
+    ),
+    program!(
+        Tuple(&[Int(4), Int(6)]), Cast(Local(0), PAIR_IN), PartOfDyn(Local(1), 2);
+        Cast(Local(2), INT_OUT) => Blames(OF_PART)
+    ),
     // an integer in Dyn has no parts
-    Program {
-        turns: &[Cast(Int(5), INT_IN), PartOfDyn(Local(0), 0)],
-        last: Cast(Local(1), INT_OUT),
-        end: Blames(OF_PART),
-    },
+    program!(
+        Cast(Int(5), INT_IN), PartOfDyn(Local(0), 0); Cast(Local(1), INT_OUT) => Blames(OF_PART)
+    ),
 ];
 
 const FUNCTIONS: &[Program] = &[
-    Program {
-        turns: &[
-            Function(0, &[]),
-            Cast(Local(0), FUNCTION),
-            Cast(Int(41), INT_IN),
-            Call(Local(1), &[Local(2)]),
-        ],
-        last: Cast(Local(3), INT_OUT),
-        end: Answers(42),
-    },
-    Program {
-        turns: &[
-            Function(0, &[]),
-            Cast(Local(0), FUNCTION),
-            Cast(Bool(true), BOOL_IN),
-            Call(Local(1), &[Local(2)]),
-        ],
-        last: Cast(Local(3), INT_OUT),
-        end: Blames(FUNCTION),
-    },
+    program!(
+        Function(0, &[]), Cast(Local(0), FUNCTION), Cast(Int(41), INT_IN),
+        Call(Local(1), &[Local(2)]); Cast(Local(3), INT_OUT) => Answers(42)
+    ),
+    program!(
+        Function(0, &[]), Cast(Local(0), FUNCTION), Cast(Bool(true), BOOL_IN),
+        Call(Local(1), &[Local(2)]); Cast(Local(3), INT_OUT) => Blames(FUNCTION)
+    ),
     // a captured name holds a proxy, which is called in tail position
-    Program {
-        turns: &[
-            Function(0, &[]),
-            Cast(Local(0), FUNCTION),
-            Function(1, &[Local(1)]),
-            Cast(Int(41), INT_IN),
-            Call(Local(2), &[Local(3)]),
-        ],
-        last: Cast(Local(4), INT_OUT),
-        end: Answers(42),
-    },
+    program!(
+        Function(0, &[]), Cast(Local(0), FUNCTION), Function(1, &[Local(1)]), Cast(Int(41), INT_IN),
+        Call(Local(2), &[Local(3)]); Cast(Local(4), INT_OUT) => Answers(42)
+    ),
 ];
 
 // The stop of an end.

@@ -22,7 +22,7 @@ use rv_emulator::stops::Stop;
 use std::alloc::Global;
 use std::process::Abort;
 
-// The casts by their numbers, each of which has the label of its number.
+// The casts by their numbers, each of which has the label of its number. The scheme covers them all.
 const SAME: u32 = 0;
 
 const TO_TRUTH: u32 = 1;
@@ -46,102 +46,52 @@ const CASTS: &[(TypeId, TypeId)] = &[
 
 const BOXES: &[Program] = &[
     // what is written through three wrappers that keep it stands in the box
-    Program {
-        turns: &[
-            Does(MakeBox, &[Int(40)]),
-            Cast(Local(0), SAME),
-            Cast(Local(1), SAME),
-            Cast(Local(2), SAME),
-            Does(BoxSet, &[Local(3), Int(42)]),
-        ],
-        last: Does(Unbox, &[Local(0)]),
-        end: Answers(42),
-    },
+    program!(
+        Does(MakeBox, &[Int(40)]), Cast(Local(0), SAME), Cast(Local(1), SAME), Cast(Local(2), SAME),
+        Does(BoxSet, &[Local(3), Int(42)]); Does(Unbox, &[Local(0)]) => Answers(42)
+    ),
     // and is read through two
-    Program {
-        turns: &[
-            Does(MakeBox, &[Int(7)]),
-            Cast(Local(0), SAME),
-            Cast(Local(1), SAME),
-            Does(Unbox, &[Local(2)]),
-        ],
-        last: Cast(Local(3), KEPT),
-        end: Answers(7),
-    },
+    program!(
+        Does(MakeBox, &[Int(7)]), Cast(Local(0), SAME), Cast(Local(1), SAME),
+        Does(Unbox, &[Local(2)]); Cast(Local(3), KEPT) => Answers(7)
+    ),
     // what is read is cast by the innermost wrapper first
-    Program {
-        turns: &[
-            Does(MakeBox, &[Int(5)]),
-            Cast(Local(0), SAME),
-            Cast(Local(1), TO_TRUTH),
-            Cast(Local(2), FROM_TRUTH),
-        ],
-        last: Does(Unbox, &[Local(3)]),
-        end: Blames(TO_TRUTH),
-    },
+    program!(
+        Does(MakeBox, &[Int(5)]), Cast(Local(0), SAME), Cast(Local(1), TO_TRUTH),
+        Cast(Local(2), FROM_TRUTH); Does(Unbox, &[Local(3)]) => Blames(TO_TRUTH)
+    ),
     // and what is written by the outermost
-    Program {
-        turns: &[
-            Does(MakeBox, &[Int(5)]),
-            Cast(Local(0), SAME),
-            Cast(Local(1), TO_TRUTH),
-            Cast(Local(2), FROM_TRUTH),
-            Does(BoxSet, &[Local(3), Int(6)]),
-        ],
-        last: Does(Unbox, &[Local(0)]),
-        end: Blames(FROM_TRUTH),
-    },
+    program!(
+        Does(MakeBox, &[Int(5)]), Cast(Local(0), SAME), Cast(Local(1), TO_TRUTH),
+        Cast(Local(2), FROM_TRUTH), Does(BoxSet, &[Local(3), Int(6)]);
+        Does(Unbox, &[Local(0)]) => Blames(FROM_TRUTH)
+    ),
     // a box that is never used blames nothing
-    Program {
-        turns: &[Does(MakeBox, &[Int(5)]), Cast(Local(0), TO_TRUTH)],
-        last: Does(Unbox, &[Local(0)]),
-        end: Answers(5),
-    },
-    Program {
-        turns: &[Cast(Int(5), WRONG)],
-        last: Cast(Int(5), KEPT),
-        end: Blames(WRONG),
-    },
-    Program {
-        turns: &[
-            Does(MakeBox, &[Int(5)]),
-            Cast(Local(0), SAME),
-            Cast(Local(1), NO_BOX),
-        ],
-        last: Cast(Int(5), KEPT),
-        end: Blames(NO_BOX),
-    },
+    program!(
+        Does(MakeBox, &[Int(5)]), Cast(Local(0), TO_TRUTH); Does(Unbox, &[Local(0)]) => Answers(5)
+    ),
+    program!(Cast(Int(5), WRONG); Cast(Int(5), KEPT) => Blames(WRONG)),
+    program!(
+        Does(MakeBox, &[Int(5)]), Cast(Local(0), SAME), Cast(Local(1), NO_BOX);
+        Cast(Int(5), KEPT) => Blames(NO_BOX)
+    ),
 ];
 
 const VECTORS: &[Program] = &[
-    Program {
-        turns: &[
-            Does(MakeVector, &[Int(3), Int(5)]),
-            Does(VectorSet, &[Local(0), Int(2), Int(9)]),
-        ],
-        last: Does(VectorRef, &[Local(0), Int(2)]),
-        end: Answers(9),
-    },
-    Program {
-        turns: &[Does(MakeVector, &[Int(3), Int(5)])],
-        last: Does(VectorLength, &[Local(0)]),
-        end: Answers(3),
-    },
-    Program {
-        turns: &[Does(MakeVector, &[Int(3), Int(5)])],
-        last: Does(VectorRef, &[Local(0), Int(3)]),
-        end: Traps(Trap::Index),
-    },
-    Program {
-        turns: &[Does(MakeVector, &[Int(3), Int(5)])],
-        last: Does(VectorSet, &[Local(0), Int(-1), Int(5)]),
-        end: Traps(Trap::Index),
-    },
-    Program {
-        turns: &[],
-        last: Does(MakeVector, &[Int(-1), Int(5)]),
-        end: Traps(Trap::Length),
-    },
+    program!(
+        Does(MakeVector, &[Int(3), Int(5)]), Does(VectorSet, &[Local(0), Int(2), Int(9)]);
+        Does(VectorRef, &[Local(0), Int(2)]) => Answers(9)
+    ),
+    program!(Does(MakeVector, &[Int(3), Int(5)]); Does(VectorLength, &[Local(0)]) => Answers(3)),
+    program!(
+        Does(MakeVector, &[Int(3), Int(5)]);
+        Does(VectorRef, &[Local(0), Int(3)]) => Traps(Trap::Index)
+    ),
+    program!(
+        Does(MakeVector, &[Int(3), Int(5)]);
+        Does(VectorSet, &[Local(0), Int(-1), Int(5)]) => Traps(Trap::Index)
+    ),
+    program!(; Does(MakeVector, &[Int(-1), Int(5)]) => Traps(Trap::Length)),
 ];
 
 // The numbered procedures of a row, one alone.

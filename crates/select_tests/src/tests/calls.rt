@@ -76,28 +76,23 @@ macro_rules! sums_below {
     };
 }
 
+// Word 0 takes these words behind it, as digits of sixteen.
+macro_rules! digits {
+    ($($word:expr),*) => {
+        &[$(
+            Op::Compute(WordOp::Sll, 0, Word(0), Number(4)),
+            Op::Compute(WordOp::Add, 0, Word(0), Word($word)),
+        )*]
+    };
+}
+
 // Its eight words as digits of sixteen.
 const EIGHT_WORDS: &[Proc] = &[
     begins_with!(1, 2, 3, 4, 5, 6, 7, 8),
     Proc {
         params: 8,
         words: 8,
-        steps: &[
-            Op::Compute(WordOp::Sll, 0, Word(0), Number(4)),
-            Op::Compute(WordOp::Add, 0, Word(0), Word(1)),
-            Op::Compute(WordOp::Sll, 0, Word(0), Number(4)),
-            Op::Compute(WordOp::Add, 0, Word(0), Word(2)),
-            Op::Compute(WordOp::Sll, 0, Word(0), Number(4)),
-            Op::Compute(WordOp::Add, 0, Word(0), Word(3)),
-            Op::Compute(WordOp::Sll, 0, Word(0), Number(4)),
-            Op::Compute(WordOp::Add, 0, Word(0), Word(4)),
-            Op::Compute(WordOp::Sll, 0, Word(0), Number(4)),
-            Op::Compute(WordOp::Add, 0, Word(0), Word(5)),
-            Op::Compute(WordOp::Sll, 0, Word(0), Number(4)),
-            Op::Compute(WordOp::Add, 0, Word(0), Word(6)),
-            Op::Compute(WordOp::Sll, 0, Word(0), Number(4)),
-            Op::Compute(WordOp::Add, 0, Word(0), Word(7)),
-        ],
+        steps: digits!(1, 2, 3, 4, 5, 6, 7),
         end: End::Return(Word(0)),
     },
 ];

@@ -1,6 +1,8 @@
 // Programs that are closed, and programs that aren't.
 
-use crate::tests::programs::{End, Op, Proc, alone, program_of, repeated, with_arithmetic};
+use crate::tests::programs::{
+    End, Op, Proc, alone, of_two_words, program_of, repeated, with_arithmetic,
+};
 use low_ir::code::LowSource::{Number, Word};
 use low_ir::code::{LowCode, WordOp};
 use low_ir::programs::LowProgram;
@@ -8,18 +10,6 @@ use machine_words::conditions::Cond;
 use rt_refs::procs::{ARITHMETIC_PROCS, arithmetic_procs};
 use std::alloc::Global;
 use std::process::Abort;
-
-// A procedure that takes no words and has two.
-macro_rules! of_two_words {
-    ($steps:expr, $end:expr) => {
-        &[Proc {
-            params: 0,
-            words: 2,
-            steps: $steps,
-            end: $end,
-        }]
-    };
-}
 
 // Word 0 is set in the one branch and this one in the other; then word 0 is returned.
 macro_rules! branches {

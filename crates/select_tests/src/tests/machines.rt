@@ -57,12 +57,12 @@ pub(crate) fn machine_of(
     rt: &impl Abort,
     alloc: Global,
     image: &Image,
-    region: u64,
-    stack: u64,
+    sizes: (u64, u64),
 ) -> Machine<FlatRam>
-    requires region { IsRegionSize region }
-    requires stack { IsStackSize stack }
+    requires region { IsRegionSize sizes.0 }
+    requires stack { IsStackSize sizes.1 }
 {
+    let (region, stack) = sizes;
     let size = image.loaded().len() as u64 + region + stack;
     let ram = FlatRam::new(alloc, size).expect(rt, "memory");
     let world = World::new(alloc, Bytes::new(alloc));
@@ -70,9 +70,10 @@ pub(crate) fn machine_of(
 }
 
 // Whether a region and a stack may have these sizes.
-fn are_sizes(region: u64, stack: u64) -> bool
-    ensures { IsTrue result → IsRegionSize region × IsStackSize stack }
+fn are_sizes(sizes: (u64, u64)) -> bool
+    ensures { IsTrue result → IsRegionSize sizes.0 × IsStackSize sizes.1 }
 {
+    let (region, stack) = sizes;
     region % 8 == 0 && region <= 1_073_741_824 && stack % 8 == 0 && stack <= 268_435_456
 }
 
@@ -90,12 +91,8 @@ fn run_of(
     sizes: (u64, u64),
     text: &str,
 ) -> (Stop, bool) {
-    let (region, stack) = sizes;
-    assert!(rt;
-        are_sizes(region, stack),
-        "a region or a stack has no such size"
-    );
-    let mut machine = machine_of(rt, alloc, image, region, stack);
+    assert!(rt; are_sizes(sizes), "a region or a stack has no such size");
+    let mut machine = machine_of(rt, alloc, image, sizes);
     stop_of(&mut machine, text)
 }
 

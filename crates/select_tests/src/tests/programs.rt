@@ -45,6 +45,20 @@ pub(crate) struct Proc {
     pub(crate) end: End,
 }
 
+// A lone procedure that takes no words and has two.
+macro_rules! of_two_words {
+    ($steps:expr, $end:expr) => {
+        &[Proc {
+            params: 0,
+            words: 2,
+            steps: $steps,
+            end: $end,
+        }]
+    };
+}
+
+pub(crate) use of_two_words;
+
 // These sources.
 pub(crate) fn sources(rt: &impl Abort, alloc: Global, words: &[LowSource]) -> LowSources {
     LowSources::from_slice(alloc, words).expect(rt, "memory")

@@ -332,13 +332,14 @@ macro_rules! element_written {
     };
 }
 
-// A vector of so many times 5 is made, and its length is answered.
+// A vector of so many times 5 is made, and its length is answered, once this was done with it.
 macro_rules! filled {
-    ($length:expr, $region:expr, $stop:expr) => {
+    ($length:expr, $region:expr, $stop:expr $(, $turn:expr)*) => {
         Sample {
             turns: &[
                 Does(Call(1, FILL, &[Number($length), Number(5)])),
                 Does(Call(2, READ, &[Number(2), Word(1), Number(0)])),
+                $($turn,)*
             ],
             answer: Word(2),
             region: $region,
@@ -350,17 +351,13 @@ macro_rules! filled {
 // The same, where its last element is added to its length.
 macro_rules! filled_and_read {
     ($length:expr, $region:expr, $stop:expr) => {
-        Sample {
-            turns: &[
-                Does(Call(1, FILL, &[Number($length), Number(5)])),
-                Does(Call(2, READ, &[Number(2), Word(1), Number(0)])),
-                Does(Call(4, READ, &[Number(1), Word(1), Number($length - 1)])),
-                Does(Compute(WordOp::Add, 2, Word(2), Word(4))),
-            ],
-            answer: Word(2),
-            region: $region,
-            stop: $stop,
-        }
+        filled!(
+            $length,
+            $region,
+            $stop,
+            Does(Call(4, READ, &[Number(1), Word(1), Number($length - 1)])),
+            Does(Compute(WordOp::Add, 2, Word(2), Word(4)))
+        )
     };
 }
 

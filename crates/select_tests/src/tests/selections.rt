@@ -1,6 +1,6 @@
 // The code of small programs.
 
-use crate::tests::programs::{End, Op, Proc, alone, program_of, step};
+use crate::tests::programs::{End, Op, Proc, alone, of_two_words, program_of, step};
 use low_ir::code::LowSource::{Number, Word};
 use low_ir::code::{LowCode, WordOp};
 use low_ir::programs::LowProgram;
@@ -144,6 +144,18 @@ struct Selection {
     items: &'static [[u64; 5]],
 }
 
+macro_rules! selection {
+    ($program:expr, $registers:literal registers, $count:literal items, from $place:literal: $items:expr) => {
+        Selection {
+            program: $program,
+            registers: $registers,
+            count: $count,
+            place: $place,
+            items: $items,
+        }
+    };
+}
+
 // The code that is selected for a program, which is closed.
 fn selected(rt: &impl Abort, alloc: Global, low: LowProgram) -> VirtualCode {
     assert!(rt; low.is_closed(), "the program is not closed");
@@ -163,18 +175,6 @@ fn all_are_so(rt: &impl Abort, alloc: Global, rows: &[Selection]) {
     for (place, row) in rows.iter().enumerate() {
         assert!(rt; is_so(rt, alloc, row), "row {place}");
     }
-}
-
-// A lone procedure of two words.
-macro_rules! of_two_words {
-    ($steps:expr, $end:expr) => {
-        &[Proc {
-            params: 0,
-            words: 2,
-            steps: $steps,
-            end: $end,
-        }]
-    };
 }
 
 // A program that answers a number.
@@ -232,125 +232,89 @@ const OTHER_KINDS: &[Proc] = of_two_words!(
 // the procedure, and before the six that stand at its end for want of room. A branch has two marks. An object is
 // written before the allocation word moves. Words are handed on from x10 on.
 const SELECTIONS: &[Selection] = &[
-    Selection {
-        program: ANSWERS,
-        registers: 2,
-        count: 15,
-        place: 0,
-        items: &[
-            [CALL, 0, 0, 0, 0],
-            [MOVE, X11, X10, 0, 0],
-            [CONSTANT, X10, 0, 0, 0],
-            [CONSTANT, X17, 0, 0, 0],
-            [ENVIRONMENT, 0, 0, 0, 0],
-            [RETURN, 0, 0, 0, 0],
-            [PROCEDURE, 0, 0, 2, 0],
-            [CONSTANT, X10, 42, 0, 0],
-            [RETURN, 0, 0, 0, 0],
-            [MARK, 1, 0, 0, 0],
-            [CONSTANT, X10, 0, 0, 0],
-            [CONSTANT, X11, 0, 0, 0],
-            [CONSTANT, X17, 5, 0, 0],
-            [ENVIRONMENT, 0, 0, 0, 0],
-            [JUMP, 1, 0, 0, 0],
-        ],
-    },
-    Selection {
-        program: BRANCHES,
-        registers: 2,
-        count: 22,
-        place: 7,
-        items: &[
-            [CONSTANT, X5, 7, 0, 0],
-            [BRANCH, LT, X5, X0, 2],
-            [CONSTANT, W0, 2, 0, 0],
-            [JUMP, 3, 0, 0, 0],
-            [MARK, 2, 0, 0, 0],
-            [CONSTANT, W0, 1, 0, 0],
-            [MARK, 3, 0, 0, 0],
-            [MOVE, X10, W0, 0, 0],
-            [RETURN, 0, 0, 0, 0],
-        ],
-    },
-    Selection {
-        program: BUILDS,
-        registers: 2,
-        count: 23,
-        place: 7,
-        items: &[
-            [COMPUTE, SUB, X5, X27, X26],
-            [CONSTANT, X6, 16, 0, 0],
-            [BRANCH, LTU, X5, X6, 1],
-            [CONSTANT, X5, 9, 0, 0],
-            [STORE, X5, X26, 0, 0],
-            [STORE, X0, X26, 8, 0],
-            [MOVE, W1, X26, 0, 0],
-            [COMPUTE, ADD, X26, X26, X6],
-            [MOVE, X10, W1, 0, 0],
-            [RETURN, 0, 0, 0, 0],
-        ],
-    },
-    Selection {
-        program: TWO,
-        registers: 4,
-        count: 32,
-        place: 6,
-        items: &[
-            [PROCEDURE, 0, 0, 1, 0],
-            [CONSTANT, X10, 5, 0, 0],
-            [CONSTANT, X11, 3, 0, 0],
-            [CALL, 1, 2, 0, 0],
-            [MOVE, W0, X10, 0, 0],
-            [MOVE, X10, W0, 0, 0],
-            [RETURN, 0, 0, 0, 0],
-        ],
-    },
-    Selection {
-        program: TWO,
-        registers: 4,
-        count: 32,
-        place: 19,
-        items: &[
-            [PROCEDURE, 1, 1, 3, 0],
-            [MOVE, W1, X10, 0, 0],
-            [MOVE, W2, X11, 0, 0],
-            [COMPUTE_WITH, SUB, W3, W1, 1],
-            [MOVE, X10, W3, 0, 0],
-            [MOVE, X11, W2, 0, 0],
-            [TAIL_CALL, 1, 2, 0, 0],
-        ],
-    },
-    Selection {
-        program: OTHER_KINDS,
-        registers: 2,
-        count: 36,
-        place: 7,
-        items: &[
-            [CONSTANT, X5, 3, 0, 0],
-            [COMPUTE_WITH, SLL, W0, X5, 4],
-            [CONSTANT, X5, 65536, 0, 0],
-            [LOAD, W1, X5, 8, 0],
-            [CONSTANT, X7, 300, 0, 0],
-            [COMPUTE, SUB, X5, X27, X26],
-            [COMPUTE_WITH, SRL, X5, X5, 3],
-            [BRANCH, LTU, X5, X7, 1],
-            [MOVE, W0, X26, 0, 0],
-            [STORE, W1, W0, 16, 0],
-            [CONSTANT, X7, 300, 0, 0],
-            [COMPUTE_WITH, SLL, X5, X7, 3],
-            [COMPUTE, ADD, X26, X26, X5],
-            [MOVE, X10, W1, 0, 0],
-            [CONSTANT, X11, 0, 0, 0],
-            [CONSTANT, X17, 1, 0, 0],
-            [ENVIRONMENT, 0, 0, 0, 0],
-            [MOVE, W0, X10, 0, 0],
-            [MOVE, W1, X11, 0, 0],
-            [CODE_OF, W0, 0, 0, 0],
-            [CALL_AT, W0, 0, 0, 0],
-            [MOVE, W1, X10, 0, 0],
-            [TAIL_CALL_AT, W0, 0, 0, 0],
-        ],
-    },
+    selection!(ANSWERS, 2 registers, 15 items, from 0: &[
+        [CALL, 0, 0, 0, 0],
+        [MOVE, X11, X10, 0, 0],
+        [CONSTANT, X10, 0, 0, 0],
+        [CONSTANT, X17, 0, 0, 0],
+        [ENVIRONMENT, 0, 0, 0, 0],
+        [RETURN, 0, 0, 0, 0],
+        [PROCEDURE, 0, 0, 2, 0],
+        [CONSTANT, X10, 42, 0, 0],
+        [RETURN, 0, 0, 0, 0],
+        [MARK, 1, 0, 0, 0],
+        [CONSTANT, X10, 0, 0, 0],
+        [CONSTANT, X11, 0, 0, 0],
+        [CONSTANT, X17, 5, 0, 0],
+        [ENVIRONMENT, 0, 0, 0, 0],
+        [JUMP, 1, 0, 0, 0],
+    ]),
+    selection!(BRANCHES, 2 registers, 22 items, from 7: &[
+        [CONSTANT, X5, 7, 0, 0],
+        [BRANCH, LT, X5, X0, 2],
+        [CONSTANT, W0, 2, 0, 0],
+        [JUMP, 3, 0, 0, 0],
+        [MARK, 2, 0, 0, 0],
+        [CONSTANT, W0, 1, 0, 0],
+        [MARK, 3, 0, 0, 0],
+        [MOVE, X10, W0, 0, 0],
+        [RETURN, 0, 0, 0, 0],
+    ]),
+    selection!(BUILDS, 2 registers, 23 items, from 7: &[
+        [COMPUTE, SUB, X5, X27, X26],
+        [CONSTANT, X6, 16, 0, 0],
+        [BRANCH, LTU, X5, X6, 1],
+        [CONSTANT, X5, 9, 0, 0],
+        [STORE, X5, X26, 0, 0],
+        [STORE, X0, X26, 8, 0],
+        [MOVE, W1, X26, 0, 0],
+        [COMPUTE, ADD, X26, X26, X6],
+        [MOVE, X10, W1, 0, 0],
+        [RETURN, 0, 0, 0, 0],
+    ]),
+    selection!(TWO, 4 registers, 32 items, from 6: &[
+        [PROCEDURE, 0, 0, 1, 0],
+        [CONSTANT, X10, 5, 0, 0],
+        [CONSTANT, X11, 3, 0, 0],
+        [CALL, 1, 2, 0, 0],
+        [MOVE, W0, X10, 0, 0],
+        [MOVE, X10, W0, 0, 0],
+        [RETURN, 0, 0, 0, 0],
+    ]),
+    selection!(TWO, 4 registers, 32 items, from 19: &[
+        [PROCEDURE, 1, 1, 3, 0],
+        [MOVE, W1, X10, 0, 0],
+        [MOVE, W2, X11, 0, 0],
+        [COMPUTE_WITH, SUB, W3, W1, 1],
+        [MOVE, X10, W3, 0, 0],
+        [MOVE, X11, W2, 0, 0],
+        [TAIL_CALL, 1, 2, 0, 0],
+    ]),
+    selection!(OTHER_KINDS, 2 registers, 36 items, from 7: &[
+        [CONSTANT, X5, 3, 0, 0],
+        [COMPUTE_WITH, SLL, W0, X5, 4],
+        [CONSTANT, X5, 65536, 0, 0],
+        [LOAD, W1, X5, 8, 0],
+        [CONSTANT, X7, 300, 0, 0],
+        [COMPUTE, SUB, X5, X27, X26],
+        [COMPUTE_WITH, SRL, X5, X5, 3],
+        [BRANCH, LTU, X5, X7, 1],
+        [MOVE, W0, X26, 0, 0],
+        [STORE, W1, W0, 16, 0],
+        [CONSTANT, X7, 300, 0, 0],
+        [COMPUTE_WITH, SLL, X5, X7, 3],
+        [COMPUTE, ADD, X26, X26, X5],
+        [MOVE, X10, W1, 0, 0],
+        [CONSTANT, X11, 0, 0, 0],
+        [CONSTANT, X17, 1, 0, 0],
+        [ENVIRONMENT, 0, 0, 0, 0],
+        [MOVE, W0, X10, 0, 0],
+        [MOVE, W1, X11, 0, 0],
+        [CODE_OF, W0, 0, 0, 0],
+        [CALL_AT, W0, 0, 0, 0],
+        [MOVE, W1, X10, 0, 0],
+        [TAIL_CALL_AT, W0, 0, 0, 0],
+    ]),
 ];
 
 #[test]

@@ -63,7 +63,7 @@ fn report_from(rt: &impl Abort, machine: &Machine<FlatRam>, from: u64) -> SpaceR
 
 // The report of the boxes that the program of an image has made when it stops.
 fn report_of(rt: &impl Abort, alloc: Global, image: &Image) -> SpaceReport {
-    let mut machine = machine_of(rt, alloc, image, 16_777_216, 64);
+    let mut machine = machine_of(rt, alloc, image, (16_777_216, 64));
     let _stop = machine.run(1_000_000_000);
     let from = FIRST_ADDRESS.wrapping_add(image.loaded().len() as u64);
     report_from(rt, &machine, from)

@@ -247,42 +247,68 @@ fn boxes_are_seen_through_wrappers(rt: HostRuntime) {
     each_holds(&rt, rt.alloc(), BOXES);
 }
 
+// A vector of three 9s, of which the element at a place is read.
+macro_rules! element_read {
+    ($place:expr, $end:expr) => {
+        Run(
+            &[
+                Part::Int(3),
+                Part::Int(9),
+                Part::Prim(PrimOp::MakeVector, 2),
+                Part::Int($place),
+                Part::Prim(PrimOp::VectorRef, 2),
+            ],
+            2,
+            $end,
+        )
+    };
+}
+
+// A vector of 1s that is seen as one of Dyn: a truth value is written to a place of it.
+macro_rules! element_written {
+    ($place:expr, $end:expr) => {
+        Run(
+            &[
+                Part::Int(3),
+                Part::Int(1),
+                Part::Prim(PrimOp::MakeVector, 2),
+                Part::Cast(VECT_INT, VECT_DYN, Q),
+                Part::Var(X),
+                Part::Int($place),
+                Part::Bool(true),
+                Part::Cast(BOOL, DYN, P),
+                Part::Prim(PrimOp::VectorSet, 3),
+                Part::Let(X),
+            ],
+            100,
+            $end,
+        )
+    };
+}
+
+// A pair in Dyn, of which the part at a place is taken.
+macro_rules! part_of_dyn {
+    ($place:expr, $end:expr) => {
+        Run(
+            &[
+                Part::Int(1),
+                Part::Bool(true),
+                Part::Tuple(2),
+                Part::Cast(PAIR, DYN, P),
+                Part::ProjDyn($place, Q),
+            ],
+            100,
+            $end,
+        )
+    };
+}
+
 // Reads of a vector of three 9s, and vectors that are seen through a wrapper: the index is tested before the written
 // value is cast.
 const VECTORS: &[Run] = &[
-    Run(
-        &[
-            Part::Int(3),
-            Part::Int(9),
-            Part::Prim(PrimOp::MakeVector, 2),
-            Part::Int(3),
-            Part::Prim(PrimOp::VectorRef, 2),
-        ],
-        2,
-        End::Trap(Trap::Index),
-    ),
-    Run(
-        &[
-            Part::Int(3),
-            Part::Int(9),
-            Part::Prim(PrimOp::MakeVector, 2),
-            Part::Int(-1),
-            Part::Prim(PrimOp::VectorRef, 2),
-        ],
-        2,
-        End::Trap(Trap::Index),
-    ),
-    Run(
-        &[
-            Part::Int(3),
-            Part::Int(9),
-            Part::Prim(PrimOp::MakeVector, 2),
-            Part::Int(2),
-            Part::Prim(PrimOp::VectorRef, 2),
-        ],
-        2,
-        End::Int(9),
-    ),
+    element_read!(3, End::Trap(Trap::Index)),
+    element_read!(-1, End::Trap(Trap::Index)),
+    element_read!(2, End::Int(9)),
     Run(
         &[
             Part::Int(-1),
@@ -292,38 +318,8 @@ const VECTORS: &[Run] = &[
         1,
         End::Trap(Trap::Length),
     ),
-    Run(
-        &[
-            Part::Int(3),
-            Part::Int(1),
-            Part::Prim(PrimOp::MakeVector, 2),
-            Part::Cast(VECT_INT, VECT_DYN, Q),
-            Part::Var(X),
-            Part::Int(0),
-            Part::Bool(true),
-            Part::Cast(BOOL, DYN, P),
-            Part::Prim(PrimOp::VectorSet, 3),
-            Part::Let(X),
-        ],
-        100,
-        End::Blame(Q),
-    ),
-    Run(
-        &[
-            Part::Int(3),
-            Part::Int(1),
-            Part::Prim(PrimOp::MakeVector, 2),
-            Part::Cast(VECT_INT, VECT_DYN, Q),
-            Part::Var(X),
-            Part::Int(3),
-            Part::Bool(true),
-            Part::Cast(BOOL, DYN, P),
-            Part::Prim(PrimOp::VectorSet, 3),
-            Part::Let(X),
-        ],
-        100,
-        End::Trap(Trap::Index),
-    ),
+    element_written!(0, End::Blame(Q)),
+    element_written!(3, End::Trap(Trap::Index)),
 ];
 
 #[test]
@@ -359,28 +355,8 @@ const PARTS: &[Run] = &[
         5,
         End::Answer(AnswerKind::Bool, 1),
     ),
-    Run(
-        &[
-            Part::Int(1),
-            Part::Bool(true),
-            Part::Tuple(2),
-            Part::Cast(PAIR, DYN, P),
-            Part::ProjDyn(0, Q),
-        ],
-        100,
-        End::Int(1),
-    ),
-    Run(
-        &[
-            Part::Int(1),
-            Part::Bool(true),
-            Part::Tuple(2),
-            Part::Cast(PAIR, DYN, P),
-            Part::ProjDyn(2, Q),
-        ],
-        100,
-        End::Blame(Q),
-    ),
+    part_of_dyn!(0, End::Int(1)),
+    part_of_dyn!(2, End::Blame(Q)),
     Run(&[Part::Seq(0)], 1, End::More),
 ];
 

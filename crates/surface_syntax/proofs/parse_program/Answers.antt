@@ -1,4 +1,4 @@
-use Rattle.std.proofs.Common.{map, refl, sym, subst, arith}
+use Rattle.std.proofs.Common.{map, refl, ap, sym, ◌∙◌, subst, arith}
 use Rattle.std.proofs.lemmas.Result.{err_from_is_err_and}
 use Rattle.sexpr_reader.specs.View.{datums_of}
 use Rattle.surface_syntax.specs.Marked.{all_marked}
@@ -16,18 +16,21 @@ returns-in_err-parts-clause-refused c =
 
 pub returns-clause-program : goal.returns-clause-program
 returns-clause-program c =
-    subst (AreExpr (all_marked (datums_of c.args.forms.now))) (sym c.in_ok-body.ensures)
+    subst (AreExpr (all_marked (datums_of c.args.forms.now)))
+    (sym (ap expr_of c.into_inner-body.ensures ∙ c.in_ok-whole.ensures))
     (answered _ (map part_of c.in_ok-parts.parts.items) _ c.in_ok-parts.ensures.parts)
 
 pub returns-clause-fresh : goal.returns-clause-fresh
 returns-clause-fresh c =
-    is_fresh_once (all_marked (datums_of c.args.forms.now)) (expr_of c.in_ok-body.body)
-    (subst (AreExpr (all_marked (datums_of c.args.forms.now))) (sym c.in_ok-body.ensures)
+    is_fresh_once (all_marked (datums_of c.args.forms.now)) (expr_of c.into_inner-body.result)
+    (subst (AreExpr (all_marked (datums_of c.args.forms.now)))
+    (sym (ap expr_of c.into_inner-body.ensures ∙ c.in_ok-whole.ensures))
     (answered _ (map part_of c.in_ok-parts.parts.items) _ c.in_ok-parts.ensures.parts))
 
 pub returns-clause-shallow : goal.returns-clause-shallow
 returns-clause-shallow c =
-    let deep = is_shallow (datums_of c.args.forms.now) (expr_of c.in_ok-body.body)
-    (subst (AreExpr (all_marked (datums_of c.args.forms.now))) (sym c.in_ok-body.ensures)
+    let deep = is_shallow (datums_of c.args.forms.now) (expr_of c.into_inner-body.result)
+    (subst (AreExpr (all_marked (datums_of c.args.forms.now)))
+    (sym (ap expr_of c.into_inner-body.ensures ∙ c.in_ok-whole.ensures))
     (answered _ (map part_of c.in_ok-parts.parts.items) _ c.in_ok-parts.ensures.parts)) in
     omega (arith, c.in_ok-parts.ensures.all, c.in_ok-parts.ensures.few)

@@ -2,7 +2,7 @@ use Rattle.std.proofs.Common.{◌∙◌, ℕ, ap, refl, sym, rules}
 use Rattle.std.specs.Prelude.{is_some}
 use Rattle.core_calc.specs.States.{store_of}
 use Rattle.core_calc.specs.Terms.{BindingThen, Call, Cast, Enter, If, Let, NoBindings, NoTerms, Prim, Proj, ProjDyn}
-use Rattle.core_calc.specs.Terms.{Seq, TermThen, Tuple, as_value}
+use Rattle.core_calc.specs.Terms.{Seq, Term, TermThen, Tuple, as_value}
 use Rattle.core_calc.specs.Views.{bindings_of, term_of, terms_of}
 use Rattle.core_calc.specs.declared.terms.CoreBinding.{out-CoreBinding}
 use Rattle.core_calc.specs.declared.terms.CoreBindings.{the_lemmas as bindings_lemmas}
@@ -10,7 +10,7 @@ use Rattle.core_calc.specs.declared.terms.CoreList.{the_lemmas as terms_lemmas}
 use Rattle.calc_stepper.proofs.Stepping.{after_bindings, after_step, after_terms, arguments_step, called_steps}
 use Rattle.calc_stepper.proofs.Stepping.{cast_part_steps, come, enter_part_steps, if_part_steps, let_part_steps}
 use Rattle.calc_stepper.proofs.Stepping.{part_answers, prim_part_steps, proj_dyn_part_steps, proj_part_steps}
-use Rattle.calc_stepper.proofs.Stepping.{seq_part_steps, tuple_part_steps}
+use Rattle.calc_stepper.proofs.Stepping.{seq_part_steps, terms_answer, tuple_part_steps}
 use Rattle.calc_stepper.proofs.Stepping.{arrives, comes_to_end, first_bound_steps, first_steps, goes_along, goes_past}
 use Rattle.calc_stepper.proofs.Stepping.{goes_past_bound}
 use Rattle.calc_stepper.specs.Lists.{bindings_onto, terms_onto}
@@ -85,14 +85,8 @@ step_term-returns-in-If-clause-moves t c =
 
 pub step_term-returns-in-Seq-clause-moves : goal.step_term-returns-in-Seq-clause-moves
 step_term-returns-in-Seq-clause-moves t c =
-    part_answers c.args.types.now (store_of c.args.store.now) c.args.world.now (term_of c.args.term.now) _
-    Seq (after_terms c.args.types.now (store_of c.args.store.now) c.args.world.now (terms_of c.in-Seq.terms))
-    c.is_redex.result c.step_terms-in-Seq.result
-    (λ moved. come moved (terms_of c.step_terms-in-Seq.new.terms) (store_of c.step_terms-in-Seq.new.store)
-    c.step_terms-in-Seq.new.world)
-    (ap term_of c.in-Seq.is) c.is_redex.ensures c.if-is_redex.false
-    (seq_part_steps c.args.types.now (store_of c.args.store.now) c.args.world.now (terms_of c.in-Seq.terms))
-    c.step_terms-in-Seq.ensures.moves
+    terms_answer _ _ _ _ _ (terms_of c.in-Seq.terms) c.in-Seq.is Seq seq_part_steps refl c.is_redex.ensures
+    c.if-is_redex.false c.step_terms-in-Seq.ensures.moves
 
 pub step_term-returns-in-Cast-clause-moves : goal.step_term-returns-in-Cast-clause-moves
 step_term-returns-in-Cast-clause-moves t c =
@@ -140,26 +134,14 @@ step_term-returns-in-ProjDyn-clause-moves t c =
 
 pub step_term-returns-in-Tuple-clause-moves : goal.step_term-returns-in-Tuple-clause-moves
 step_term-returns-in-Tuple-clause-moves t c =
-    part_answers c.args.types.now (store_of c.args.store.now) c.args.world.now (term_of c.args.term.now) _
-    Tuple (after_terms c.args.types.now (store_of c.args.store.now) c.args.world.now (terms_of c.in-Tuple.parts))
-    c.is_redex.result c.step_terms-in-Tuple.result
-    (λ moved. come moved (terms_of c.step_terms-in-Tuple.new.terms) (store_of c.step_terms-in-Tuple.new.store)
-    c.step_terms-in-Tuple.new.world)
-    (ap term_of c.in-Tuple.is) c.is_redex.ensures c.if-is_redex.false
-    (tuple_part_steps c.args.types.now (store_of c.args.store.now) c.args.world.now (terms_of c.in-Tuple.parts))
-    c.step_terms-in-Tuple.ensures.moves
+    terms_answer _ _ _ _ _ (terms_of c.in-Tuple.parts) c.in-Tuple.is Tuple tuple_part_steps refl c.is_redex.ensures
+    c.if-is_redex.false c.step_terms-in-Tuple.ensures.moves
 
 pub step_term-returns-in-Prim-clause-moves : goal.step_term-returns-in-Prim-clause-moves
 step_term-returns-in-Prim-clause-moves t c =
-    part_answers c.args.types.now (store_of c.args.store.now) c.args.world.now (term_of c.args.term.now) _
-    (Prim c.in-Prim.field-0) (after_terms c.args.types.now (store_of c.args.store.now) c.args.world.now
-    (terms_of c.in-Prim.operands))
-    c.is_redex.result c.step_terms-in-Prim.result
-    (λ moved. come moved (terms_of c.step_terms-in-Prim.new.terms) (store_of c.step_terms-in-Prim.new.store)
-    c.step_terms-in-Prim.new.world)
-    (ap term_of c.in-Prim.is) c.is_redex.ensures c.if-is_redex.false
-    (prim_part_steps c.args.types.now (store_of c.args.store.now) c.args.world.now c.in-Prim.field-0
-    (terms_of c.in-Prim.operands)) c.step_terms-in-Prim.ensures.moves
+    terms_answer _ _ _ _ _ (terms_of c.in-Prim.operands) c.in-Prim.is (Prim c.in-Prim.field-0)
+    (λ types store world operands e. prim_part_steps types store world c.in-Prim.field-0 operands e) refl
+    c.is_redex.ensures c.if-is_redex.false c.step_terms-in-Prim.ensures.moves
 
 pub step_terms-returns-then-not-is_value-clause-moves : goal.step_terms-returns-then-not-is_value-clause-moves
 step_terms-returns-then-not-is_value-clause-moves t c =
@@ -178,8 +160,7 @@ step_terms-returns-then-not-is_value-clause-moves t c =
 
 pub step_terms-loop-left-preserved : goal.step_terms-loop-left-preserved
 step_terms-loop-left-preserved t c =
-    let first = term_of c.in-Cons.first.value in
-    let rest = terms_of c.in-Cons.rest.value in
+    let first : Term = term_of c.in-Cons.first.value in
     record {
       store_is = c.loop-left.invariant.store_is;
       world_is = c.loop-left.invariant.world_is;
@@ -188,8 +169,10 @@ step_terms-loop-left-preserved t c =
           goes_along c.args.types.now (store_of c.loop-left.store) c.loop-left.world
           (after_terms c.args.types.now (store_of c.loop-left.store) c.loop-left.world) terms_onto (TermThen first)
           (terms_of c.loop-left.done) (terms_of c.replace-done.result) (terms_of c.loop-left.left)
-          (terms_of c.replace-done.new.dest) rest _ (search rules) (search rules) (ap terms_of c.in-Cons.is)
-          (goes_past c.args.types.now (store_of c.loop-left.store) c.loop-left.world first rest
+          (terms_of c.replace-done.new.dest) (terms_of c.in-Cons.rest.value) _ (search rules) (search rules)
+          (ap terms_of c.in-Cons.is)
+          (goes_past c.args.types.now (store_of c.loop-left.store) c.loop-left.world first
+          (terms_of c.in-Cons.rest.value)
           (ap (λ x. is_some (as_value (term_of x))) (sym c.deref.ensures) ∙ sym c.is_value.ensures
           ∙ c.if-not-is_value.false))
           (λ x. refl) c.loop-left.invariant.step_is;

@@ -8,58 +8,38 @@ use Rattle.calc_stepper.proofs.steps.redex_step.Goals as goal
 
 pub returns-in-Lambda-clause-moves : goal.returns-in-Lambda-clause-moves
 returns-in-Lambda-clause-moves c =
-    answers c.args.types.now (store_of c.args.store.now) c.args.world.now (term_of c.args.term.now) _
-    (term_of c.lambda_redex.new.term) lambda_redex c.lambda_redex.result (ap term_of c.in-Lambda.is) refl c.requires
-    c.lambda_redex.ensures.moves
+    answers _ _ _ _ _ c.in-Lambda.is lambda_redex refl c.requires c.lambda_redex.ensures.moves
 
 pub returns-in-Group-clause-moves : goal.returns-in-Group-clause-moves
 returns-in-Group-clause-moves c =
-    answers c.args.types.now (store_of c.args.store.now) c.args.world.now (term_of c.args.term.now) _
-    (term_of c.group_redex.new.term) group_redex c.group_redex.result (ap term_of c.in-Group.is) refl c.requires
-    c.group_redex.ensures.moves
+    answers _ _ _ _ _ c.in-Group.is group_redex refl c.requires c.group_redex.ensures.moves
 
 pub returns-in-Let-clause-moves : goal.returns-in-Let-clause-moves
-returns-in-Let-clause-moves c =
-    answers c.args.types.now (store_of c.args.store.now) c.args.world.now (term_of c.args.term.now) _
-    (term_of c.let_redex.new.term) let_redex c.let_redex.result (ap term_of c.in-Let.is) refl c.requires
-    c.let_redex.ensures.moves
+returns-in-Let-clause-moves c = answers _ _ _ _ _ c.in-Let.is let_redex refl c.requires c.let_redex.ensures.moves
 
 pub returns-in-Call-clause-moves : goal.returns-in-Call-clause-moves
-returns-in-Call-clause-moves c =
-    answers c.args.types.now (store_of c.args.store.now) c.args.world.now (term_of c.args.term.now) _
-    (term_of c.call_redex.new.term) call_redex c.call_redex.result (ap term_of c.in-Call.is) refl c.requires
-    c.call_redex.ensures.moves
+returns-in-Call-clause-moves c = answers _ _ _ _ _ c.in-Call.is call_redex refl c.requires c.call_redex.ensures.moves
 
 pub returns-in-Tuple-clause-moves : goal.returns-in-Tuple-clause-moves
 returns-in-Tuple-clause-moves c =
-    answers c.args.types.now (store_of c.args.store.now) c.args.world.now (term_of c.args.term.now) _
-    (term_of c.tuple_redex.new.term) tuple_redex c.tuple_redex.result (ap term_of c.in-Tuple.is) refl c.requires
-    c.tuple_redex.ensures.moves
+    answers _ _ _ _ _ c.in-Tuple.is tuple_redex refl c.requires c.tuple_redex.ensures.moves
 
 pub returns-in-Enter-clause-moves : goal.returns-in-Enter-clause-moves
 returns-in-Enter-clause-moves c =
-    answers_here c.args.types.now (store_of c.args.store.now) c.args.world.now (term_of c.args.term.now) _
-    (term_of c.enter_redex.new.term) (enter_redex c.args.types.now) c.enter_redex.result (ap term_of c.in-Enter.is) refl
-    c.requires c.enter_redex.ensures.moves
+    answers_here _ _ _ _ _ c.in-Enter.is (enter_redex c.args.types.now) refl c.requires c.enter_redex.ensures.moves
 
 pub returns-in-Cast-clause-moves : goal.returns-in-Cast-clause-moves
 returns-in-Cast-clause-moves c =
-    answers_here c.args.types.now (store_of c.args.store.now) c.args.world.now (term_of c.args.term.now) _
-    (term_of c.cast_redex.new.term) (cast_redex c.args.types.now) c.cast_redex.result (ap term_of c.in-Cast.is) refl
-    c.requires c.cast_redex.ensures.moves
+    answers_here _ _ _ _ _ c.in-Cast.is (cast_redex c.args.types.now) refl c.requires c.cast_redex.ensures.moves
 
 pub returns-in-Proj-clause-moves : goal.returns-in-Proj-clause-moves
 returns-in-Proj-clause-moves c =
-    answers_here c.args.types.now (store_of c.args.store.now) c.args.world.now (term_of c.args.term.now) _
-    (term_of c.proj_redex.new.term) (proj_redex c.args.types.now) c.proj_redex.result (ap term_of c.in-Proj.is) refl
-    c.requires c.proj_redex.ensures.moves
+    answers_here _ _ _ _ _ c.in-Proj.is (proj_redex c.args.types.now) refl c.requires c.proj_redex.ensures.moves
 
 pub returns-in-ProjDyn-clause-moves : goal.returns-in-ProjDyn-clause-moves
 returns-in-ProjDyn-clause-moves c =
-    answers_here c.args.types.now (store_of c.args.store.now) c.args.world.now (term_of c.args.term.now) _
-    (term_of c.proj_dyn_redex.new.term) (proj_dyn_redex c.args.types.now) c.proj_dyn_redex.result
-    (ap term_of c.in-ProjDyn.is) refl
-    c.requires c.proj_dyn_redex.ensures.moves
+    answers_here _ _ _ _ _ c.in-ProjDyn.is (proj_dyn_redex c.args.types.now) refl c.requires
+    c.proj_dyn_redex.ensures.moves
 
 pub returns-in-If-clause-moves : goal.returns-in-If-clause-moves
 returns-in-If-clause-moves c =

@@ -7,8 +7,10 @@ use Rattle.core_calc.specs.Views.{bindings_of, members_of, names_of, term_of, te
 use Rattle.coercion_norm.specs.declared.casts.Cast.{Cast as KeyCast}
 use Rattle.cast_modes.specs.Modes.{TypeCast, type_cast}
 use Rattle.coer_core.specs.declared.terms.CoerTerm.{CoerTerm}
-use Rattle.coer_core.specs.Conversion.{cast_views, converted, converted_all, number_of, with_cast}
-use Rattle.coer_core.specs.Terms.{RowLambda, RowGroup, RowLet, RowCall, RowIf, RowSeq, RowCast, RowTuple, RowPrim}
+use Rattle.coer_core.specs.Conversion.{Converted, cast_views, conversion, converted, converted_all}
+use Rattle.coer_core.specs.Conversion.{converted_bindings, converted_members, number_of, with_cast}
+use Rattle.coer_core.specs.Terms.{RowTerm, RowLambda, RowGroup, RowLet, RowCall, RowIf, RowSeq, RowCast, RowTuple}
+use Rattle.coer_core.specs.Terms.{RowPrim}
 use Rattle.coer_core.specs.Views.{row_term_of}
 use Rattle.coer_core.proofs.Joining.{ap3}
 use Rattle.coer_core.proofs.conversion.+conversion.Goals as goal
@@ -20,6 +22,24 @@ becomes : (casts : List TypeCast) (core : Core) (t : Term) {term it : CoerTerm} 
     → (row_term_of term ≡ (converted casts (term_of core)).term) × (cast_views keys
     ≡ (converted casts (term_of core)).casts)
 becomes casts core t e f g a b = rw (e, f, g) (a, b)
+
+-- a form of parts and a body in a box, of which the parts come first
+with_body : {M : Type 0} (casts : List TypeCast) (core : Core) (form : Term → Term) (row : M → RowTerm → RowTerm)
+    (first : Converted M) (middle : List KeyCast) {boxed opened : Core} {term it : CoerTerm} {keys those : List KeyCast}
+    {parts : M} {body : RowTerm} → term_of core ≡ form (term_of boxed) → opened ≡ boxed → term ≡ it → keys ≡ those
+    → row_term_of it ≡ row parts body
+    → ((t : Term) → converted casts (form t)
+    ≡ conversion (row first.term (converted first.casts t).term) (converted first.casts t).casts)
+    → (parts ≡ first.term) × (cast_views middle ≡ first.casts)
+    → (body ≡ (converted (cast_views middle) (term_of opened)).term)
+    × (cast_views those ≡ (converted (cast_views middle) (term_of opened)).casts)
+    → (row_term_of term ≡ (converted casts (term_of core)).term) × (cast_views keys
+    ≡ (converted casts (term_of core)).casts)
+with_body casts core form row first middle {opened = opened} e f g h i whole a b =
+    let t : Term = term_of opened in
+    becomes casts core (form t) (e ∙ ap (λ x. form (term_of x)) (sym f)) g h
+    (i ∙ ap₂ row a.0 (b.0 ∙ ap (λ l. (converted l t).term) a.1) ∙ ap (λ x. x.term) (sym (whole t)))
+    (b.1 ∙ ap (λ l. (converted l t).casts) a.1 ∙ ap (λ x. x.casts) (sym (whole t)))
 
 pub converted-returns : goal.converted-returns
 converted-returns t c =
@@ -43,23 +63,15 @@ converted-returns t c =
           (ap₂ (λ n x. RowLambda n x type) (ap names_of w.in_ok-copied-in-Lambda.ensures)
           w.in_ok-body-in-Lambda.ensures.term) w.in_ok-body-in-Lambda.ensures.casts
       | goal.converted-in-Group+in_ok-members-in-Group+in_ok-part-in-Group w ↦
-          let first = w.in_ok-members-in-Group.ensures in
-          let t : Term = term_of w.deref-in-Group.result.now in
-          becomes cs core (Group (members_of w.in-Group.members) t)
-          (ap term_of w.in-Group.is ∙ ap (λ x. Group (members_of w.in-Group.members) (term_of x)) (sym
-          w.deref-in-Group.ensures))
-          w.term-is w.casts-is
-          (ap₂ RowGroup first.term (w.in_ok-part-in-Group.ensures.term ∙ ap (λ l. (converted l t).term) first.casts))
-          (w.in_ok-part-in-Group.ensures.casts ∙ ap (λ l. (converted l t).casts) first.casts)
+          with_body cs core (Group _) RowGroup (converted_members cs _) _ (ap term_of w.in-Group.is)
+          w.deref-in-Group.ensures w.term-is w.casts-is refl (λ t. refl)
+          (w.in_ok-members-in-Group.ensures.term, w.in_ok-members-in-Group.ensures.casts)
+          (w.in_ok-part-in-Group.ensures.term, w.in_ok-part-in-Group.ensures.casts)
       | goal.converted-in-Let+in_ok-bindings-in-Let+in_ok-part-in-Let w ↦
-          let first = w.in_ok-bindings-in-Let.ensures in
-          let t : Term = term_of w.deref-in-Let.result.now in
-          becomes cs core (Let (bindings_of w.in-Let.bindings) t)
-          (ap term_of w.in-Let.is ∙ ap (λ x. Let (bindings_of w.in-Let.bindings) (term_of x)) (sym
-          w.deref-in-Let.ensures))
-          w.term-is w.casts-is
-          (ap₂ RowLet first.term (w.in_ok-part-in-Let.ensures.term ∙ ap (λ l. (converted l t).term) first.casts))
-          (w.in_ok-part-in-Let.ensures.casts ∙ ap (λ l. (converted l t).casts) first.casts)
+          with_body cs core (Let _) RowLet (converted_bindings cs _) _ (ap term_of w.in-Let.is)
+          w.deref-in-Let.ensures w.term-is w.casts-is refl (λ t. refl)
+          (w.in_ok-bindings-in-Let.ensures.term, w.in_ok-bindings-in-Let.ensures.casts)
+          (w.in_ok-part-in-Let.ensures.term, w.in_ok-part-in-Let.ensures.casts)
       | goal.converted-in-Call+in_ok-function-in-Call+in_ok-converted_all-in-Call w ↦
           let first = w.in_ok-function-in-Call.ensures in
           let terms : Terms = terms_of w.in-Call.arguments in

@@ -1,14 +1,15 @@
-use Rattle.std.proofs.Common.{◌≡◌, ℕ, zero, suc, ◌+◌, ◌<◌, ◌≤◌, Result, Ok, Err, List, length, sym, ap, ap₂, None}
-use Rattle.std.proofs.Common.{◌∙◌, subst, arith}
+use Rattle.std.proofs.Common.{◌≡◌, ℕ, zero, suc, ◌+◌, ◌<◌, ◌≤◌, Bool, Result, Ok, Err, List, length}
+use Rattle.std.proofs.Common.{None, Some, sym, ap, ap₂, ◌∙◌, subst, arith}
 use Rattle.std.specs.Prelude.{All, IfOk, OnOk, slice_index, [], ◌∷◌}
-use Rattle.grift_base.specs.Types.{TypeRow, is_dyn, same_head}
+use Rattle.grift_base.specs.Types.{TypeRow, TypeRows, row_at, is_dyn, same_head}
 use Rattle.type_graph.specs.Rows.{row_of}
 use Rattle.type_graph.specs.Trees.{height}
+use Rattle.type_graph.specs.TypeTables.{IsOrderedTable}
 use Rattle.coercion_norm.specs.declared.nodes.CoercionId.{CoercionId}
 use Rattle.coercion_norm.specs.declared.casts.Cast.{Cast}
 use Rattle.coercion_norm.specs.Coercions.{Coercion, Inject, Project, slots, slots_of, slot, rows_of, kind_of}
-use Rattle.coercion_norm.specs.Nodes.{KindHasWidth, IsTree}
-use Rattle.coercion_norm.specs.CoercionTables.{IsCast, IsSound, cast_of}
+use Rattle.coercion_norm.specs.Nodes.{KindHasWidth, IsTree, Node, NodeHasWidth, grown, node_parts, node_types, tree_of}
+use Rattle.coercion_norm.specs.CoercionTables.{IsCast, IsSound, MayBeNode, cast_of}
 use Rattle.coercion_norm.proofs.NodeLemmas.{same_nodes, more_nodes}
 use Rattle.coercion_norm.proofs.MadeParts.{part_tree, made_none, made_more, made_there, made_all, part_made}
 use Rattle.coercion_norm.proofs.CastLemmas.{row_is, narrow, kind_width, widths_agree, cast_is_middle, cast_sound}
@@ -23,13 +24,32 @@ in_any_case : {A E P : Type 0} (r : Result A E) → P → OnOk r P
 in_any_case (Ok a) h = h
 in_any_case (Err e) h = tt
 
--- what holds of one holds of all of one, and anything of all of none
+-- anything holds of all of none, and all of one are below what it is below
 all_none : (P : ℕ → Type 0) → All P []
 all_none P k d l = absurd (omega arith)
 
-all_one : (P : ℕ → Type 0) (x : ℕ) → P x → All P (x ∷ [])
-all_one P x h zero d l = h
-all_one P x h (suc k) d l = absurd (omega arith)
+one_below : {n x : ℕ} → x < n → All (λ k. k < n) (x ∷ [])
+one_below h zero d l = h
+one_below h (suc k) d l = absurd (omega arith)
+
+-- whether a type is Dyn, as it was found by its row
+dyn_told : (types : TypeRows) (type : ℕ) (row : TypeRow) {told known : Bool} → row_at types type ≡ Some row
+    → told ≡ is_dyn row → told ≡ known → is_dyn (rows_of types type) ≡ known
+dyn_told types type row at test is = ap is_dyn (row_is types type row at) ∙ (sym test ∙ is)
+
+-- the node whose coercion is that of a cast may go into the table
+node_of_cast : (types : TypeRows) (nodes : List Node) (node : Node) → IsOrderedTable types → (cast : Cast)
+    → IsCast types cast → All (λ part. part < length nodes) (node_parts node)
+    → All (λ type. type < length types) (node_types node) → NodeHasWidth node
+    → cast_of types cast.from.0 cast.to.0 cast.label.0 ≡ grown (tree_of nodes) (Some node)
+    → MayBeNode types nodes node
+node_of_cast types nodes node table cast there parts types_there wide is = record {
+  parts = parts;
+  types_there = types_there;
+  width = wide;
+  sound = subst (IsSound types) is
+      (cast_sound types table cast.from.0 cast.to.0 cast.label.0 there.from_there there.to_there);
+}
 
 pub coerce_known-returns-in-Some-clause-made : goal.coerce_known-returns-in-Some-clause-made
 coerce_known-returns-in-Some-clause-made t c =
@@ -229,19 +249,14 @@ pub coerce_solid-returns-then-eq-clause-grows : goal.coerce_solid-returns-then-e
 coerce_solid-returns-then-eq-clause-grows t c = same_nodes c.args.table.now.nodes
 
 pub coerce_solid-intern_node-requires-clause-node : goal.coerce_solid-intern_node-requires-clause-node
-coerce_solid-intern_node-requires-clause-node t c = record {
-  parts = all_none (λ part. part < length c.args.table.now.nodes);
-  types_there = all_none (λ type. type < length c.args.types.now);
-  width = tt;
-  sound = subst (IsSound c.args.types.now)
-      (cast_clash c.args.types.now c.len.ensures.table c.args.cast.from.0 c.args.cast.to.0 c.args.cast.label.0
-      c.requires.from_solid c.requires.to_solid (sym c.eq.ensures ∙ c.if-eq.false)
-      (ap₂ same_head (row_is c.args.types.now c.args.cast.from.0 (row_of c.row-from.result.now) c.row-from.ensures)
-      (row_is c.args.types.now c.args.cast.to.0 (row_of c.row.result.now) c.row.ensures)
-      ∙ sym c.same_head.ensures ∙ c.if-not-same_head.true))
-      (cast_sound c.args.types.now c.len.ensures.table c.args.cast.from.0 c.args.cast.to.0 c.args.cast.label.0
-      c.requires.cast.from_there c.requires.cast.to_there);
-}
+coerce_solid-intern_node-requires-clause-node t c =
+    node_of_cast c.args.types.now c.args.table.now.nodes _ c.len.ensures.table c.args.cast c.requires.cast
+    (all_none _) (all_none _) tt
+    (cast_clash c.args.types.now c.len.ensures.table c.args.cast.from.0 c.args.cast.to.0 c.args.cast.label.0
+    c.requires.from_solid c.requires.to_solid (sym c.eq.ensures ∙ c.if-eq.false)
+    (ap₂ same_head (row_is c.args.types.now c.args.cast.from.0 (row_of c.row-from.result.now) c.row-from.ensures)
+    (row_is c.args.types.now c.args.cast.to.0 (row_of c.row.result.now) c.row.ensures)
+    ∙ sym c.same_head.ensures ∙ c.if-not-same_head.true))
 
 pub coerce_solid-returns-then-not-same_head-clause-made : goal.coerce_solid-returns-then-not-same_head-clause-made
 coerce_solid-returns-then-not-same_head-clause-made t c =
@@ -276,39 +291,29 @@ pub coerce_rows-returns-then-to_dyn-clause-made : goal.coerce_rows-returns-then-
 coerce_rows-returns-then-to_dyn-clause-made t c =
     subst (IsTree c.args.table.now.nodes c.id-id.result.0)
     (sym (cast_both_dyn c.args.types.now c.len.ensures.table c.args.cast.from.0 c.args.cast.to.0 c.args.cast.label.0
-    (ap is_dyn (row_is c.args.types.now c.args.cast.from.0 (row_of c.row.result.now) c.row.ensures)
-    ∙ sym c.is_dyn-from_dyn.ensures ∙ c.if-from_dyn.true)
-    (ap is_dyn (row_is c.args.types.now c.args.cast.to.0 (row_of c.row-2.result.now) c.row-2.ensures)
-    ∙ sym c.is_dyn-to_dyn.ensures ∙ c.if-to_dyn.true))) c.id-id.ensures
+    (dyn_told c.args.types.now c.args.cast.from.0 _ c.row.ensures c.is_dyn-from_dyn.ensures c.if-from_dyn.true)
+    (dyn_told c.args.types.now c.args.cast.to.0 _ c.row-2.ensures c.is_dyn-to_dyn.ensures c.if-to_dyn.true)))
+    c.id-id.ensures
 
 pub coerce_rows-returns-then-to_dyn-clause-grows : goal.coerce_rows-returns-then-to_dyn-clause-grows
 coerce_rows-returns-then-to_dyn-clause-grows t c = same_nodes c.args.table.now.nodes
 
 pub coerce_rows-intern_node-requires-clause-node : goal.coerce_rows-intern_node-requires-clause-node
-coerce_rows-intern_node-requires-clause-node t c = record {
-  parts = all_one (λ part. part < length c.args.table.now.nodes) c.id-id.result.0 c.id-id.ensures.within;
-  types_there = all_one (λ type. type < length c.args.types.now) c.args.cast.to.0 c.requires.cast.to_there;
-  width = tt;
-  sound = subst (IsSound c.args.types.now)
-      (cast_from_dyn c.args.types.now c.len.ensures.table c.args.cast.from.0 c.args.cast.to.0 c.args.cast.label.0
-      (ap is_dyn (row_is c.args.types.now c.args.cast.from.0 (row_of c.row.result.now) c.row.ensures)
-      ∙ sym c.is_dyn-from_dyn.ensures ∙ c.if-from_dyn.true)
-      (ap is_dyn (row_is c.args.types.now c.args.cast.to.0 (row_of c.row-2.result.now) c.row-2.ensures)
-      ∙ sym c.is_dyn-to_dyn.ensures ∙ c.if-to_dyn.false)
-      ∙ ap (λ x. Project c.args.cast.to.0 c.args.cast.label.0 x) (sym c.id-id.ensures.is))
-      (cast_sound c.args.types.now c.len.ensures.table c.args.cast.from.0 c.args.cast.to.0 c.args.cast.label.0
-      c.requires.cast.from_there c.requires.cast.to_there);
-}
+coerce_rows-intern_node-requires-clause-node t c =
+    node_of_cast c.args.types.now c.args.table.now.nodes _ c.len.ensures.table c.args.cast c.requires.cast
+    (one_below c.id-id.ensures.within) (one_below c.requires.cast.to_there) tt
+    (cast_from_dyn c.args.types.now c.len.ensures.table c.args.cast.from.0 c.args.cast.to.0 c.args.cast.label.0
+    (dyn_told c.args.types.now c.args.cast.from.0 _ c.row.ensures c.is_dyn-from_dyn.ensures c.if-from_dyn.true)
+    (dyn_told c.args.types.now c.args.cast.to.0 _ c.row-2.ensures c.is_dyn-to_dyn.ensures c.if-to_dyn.false)
+    ∙ ap (λ x. Project c.args.cast.to.0 c.args.cast.label.0 x) (sym c.id-id.ensures.is))
 
 pub coerce_rows-returns-then-from_dyn-clause-made : goal.coerce_rows-returns-then-from_dyn-clause-made
 coerce_rows-returns-then-from_dyn-clause-made t c =
     subst (λ x. IfOk c.intern_node.result
     (λ (r : CoercionId). IsTree c.intern_node.new.self.nodes r.0 x))
     (sym (cast_from_dyn c.args.types.now c.len.ensures.table c.args.cast.from.0 c.args.cast.to.0 c.args.cast.label.0
-    (ap is_dyn (row_is c.args.types.now c.args.cast.from.0 (row_of c.row.result.now) c.row.ensures)
-    ∙ sym c.is_dyn-from_dyn.ensures ∙ c.if-from_dyn.true)
-    (ap is_dyn (row_is c.args.types.now c.args.cast.to.0 (row_of c.row-2.result.now) c.row-2.ensures)
-    ∙ sym c.is_dyn-to_dyn.ensures ∙ c.if-to_dyn.false)
+    (dyn_told c.args.types.now c.args.cast.from.0 _ c.row.ensures c.is_dyn-from_dyn.ensures c.if-from_dyn.true)
+    (dyn_told c.args.types.now c.args.cast.to.0 _ c.row-2.ensures c.is_dyn-to_dyn.ensures c.if-to_dyn.false)
     ∙ ap (λ x. Project c.args.cast.to.0 c.args.cast.label.0 x) (sym c.id-id.ensures.is)))
     c.intern_node.ensures.tree
 
@@ -320,30 +325,21 @@ coerce_rows-returns-then-from_dyn-clause-known t c =
 
 pub coerce_rows-intern_node-requires-then-to_dyn-2-clause-node :
     goal.coerce_rows-intern_node-requires-then-to_dyn-2-clause-node
-coerce_rows-intern_node-requires-then-to_dyn-2-clause-node t c = record {
-  parts = all_one (λ part. part < length c.args.table.now.nodes) c.id-id.result.0 c.id-id.ensures.within;
-  types_there = all_one (λ type. type < length c.args.types.now) c.args.cast.from.0 c.requires.cast.from_there;
-  width = tt;
-  sound = subst (IsSound c.args.types.now)
-      (cast_to_dyn c.args.types.now c.len.ensures.table c.args.cast.from.0 c.args.cast.to.0 c.args.cast.label.0
-      (ap is_dyn (row_is c.args.types.now c.args.cast.from.0 (row_of c.row.result.now) c.row.ensures)
-      ∙ sym c.is_dyn-from_dyn.ensures ∙ c.if-from_dyn.false)
-      (ap is_dyn (row_is c.args.types.now c.args.cast.to.0 (row_of c.row-2.result.now) c.row-2.ensures)
-      ∙ sym c.is_dyn-to_dyn.ensures ∙ c.if-to_dyn-2.true)
-      ∙ ap (λ x. Inject x c.args.cast.from.0) (sym c.id-id.ensures.is))
-      (cast_sound c.args.types.now c.len.ensures.table c.args.cast.from.0 c.args.cast.to.0 c.args.cast.label.0
-      c.requires.cast.from_there c.requires.cast.to_there);
-}
+coerce_rows-intern_node-requires-then-to_dyn-2-clause-node t c =
+    node_of_cast c.args.types.now c.args.table.now.nodes _ c.len.ensures.table c.args.cast c.requires.cast
+    (one_below c.id-id.ensures.within) (one_below c.requires.cast.from_there) tt
+    (cast_to_dyn c.args.types.now c.len.ensures.table c.args.cast.from.0 c.args.cast.to.0 c.args.cast.label.0
+    (dyn_told c.args.types.now c.args.cast.from.0 _ c.row.ensures c.is_dyn-from_dyn.ensures c.if-from_dyn.false)
+    (dyn_told c.args.types.now c.args.cast.to.0 _ c.row-2.ensures c.is_dyn-to_dyn.ensures c.if-to_dyn-2.true)
+    ∙ ap (λ x. Inject x c.args.cast.from.0) (sym c.id-id.ensures.is))
 
 pub coerce_rows-returns-then-to_dyn-2-clause-made : goal.coerce_rows-returns-then-to_dyn-2-clause-made
 coerce_rows-returns-then-to_dyn-2-clause-made t c =
     subst (λ x. IfOk c.intern_node-then-to_dyn-2.result
     (λ (r : CoercionId). IsTree c.intern_node-then-to_dyn-2.new.self.nodes r.0 x))
     (sym (cast_to_dyn c.args.types.now c.len.ensures.table c.args.cast.from.0 c.args.cast.to.0 c.args.cast.label.0
-    (ap is_dyn (row_is c.args.types.now c.args.cast.from.0 (row_of c.row.result.now) c.row.ensures)
-    ∙ sym c.is_dyn-from_dyn.ensures ∙ c.if-from_dyn.false)
-    (ap is_dyn (row_is c.args.types.now c.args.cast.to.0 (row_of c.row-2.result.now) c.row-2.ensures)
-    ∙ sym c.is_dyn-to_dyn.ensures ∙ c.if-to_dyn-2.true)
+    (dyn_told c.args.types.now c.args.cast.from.0 _ c.row.ensures c.is_dyn-from_dyn.ensures c.if-from_dyn.false)
+    (dyn_told c.args.types.now c.args.cast.to.0 _ c.row-2.ensures c.is_dyn-to_dyn.ensures c.if-to_dyn-2.true)
     ∙ ap (λ x. Inject x c.args.cast.from.0) (sym c.id-id.ensures.is)))
     c.intern_node-then-to_dyn-2.ensures.tree
 

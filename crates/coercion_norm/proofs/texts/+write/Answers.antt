@@ -151,43 +151,25 @@ write_coercion-returns-in_ok-write_label-in-Fail t c =
 
 pub write_coercion-returns-in_ok-write_inject-in-Inject : goal.write_coercion-returns-in_ok-write_inject-in-Inject
 write_coercion-returns-in_ok-write_inject-in-Inject t c =
-    let kept_text : List ℕ = inject_text (type_text c.args.types.now) c.in-Inject.kept.0 in
-    let g_text : List ℕ = coercion_text (type_text c.args.types.now) (label_text c.args.labels.now)
-    (tree_of c.args.table.now.nodes c.in-Inject.g.0) in
     in_words c.extend-in-Inject-3.result c.extend-in-Inject-3.new.self
     (c.write_inject-in-Inject.new.text ++ codes ")") _
-    (ap (λ (l : List ℕ). l ++ codes ")")
-    (c.in_ok-write_inject-in-Inject.ensures
-    ∙ ap (λ (l : List ℕ). l ++ kept_text)
-    (c.in_ok-extend-in-Inject-2.ensures.ok
-    ∙ ap (λ (l : List ℕ). l ++ codes " ")
-    (c.in_ok-write_coercion-in-Inject.ensures
-    ∙ ap (λ (l : List ℕ). l ++ g_text) c.in_ok-extend-in-Inject.ensures.ok)))
-    ∙ inject_behind_written (type_text c.args.types.now) (label_text c.args.labels.now) c.args.table.now.nodes
+    (inject_behind_written (type_text c.args.types.now) (label_text c.args.labels.now) c.args.table.now.nodes
     c.len.ensures.nodes.ordered.before c.args.c.0 c.args.text.now c.in-Inject.g.0 c.in-Inject.kept.0
-    (c.node.ensures ∙ ap (λ n. Some (node_of n)) c.in-Inject.is) (sym c.is_id.ensures ∙ c.if-is_id.false))
-    c.extend-in-Inject-3.ensures.ok
+    (c.node.ensures ∙ ap (λ n. Some (node_of n)) c.in-Inject.is) (sym c.is_id.ensures ∙ c.if-is_id.false)
+    c.in_ok-extend-in-Inject.ensures.ok c.in_ok-write_coercion-in-Inject.ensures c.in_ok-extend-in-Inject-2.ensures.ok
+    c.in_ok-write_inject-in-Inject.ensures) c.extend-in-Inject-3.ensures.ok
 
 pub write_coercion-returns-in_ok-write_coercion-in-Project :
     goal.write_coercion-returns-in_ok-write_coercion-in-Project
 write_coercion-returns-in_ok-write_coercion-in-Project t c =
-    let wanted_text : List ℕ = project_text (type_text c.args.types.now) (label_text c.args.labels.now)
-    c.in-Project.wanted.0 c.in-Project.label.0 in
-    let i_text : List ℕ = coercion_text (type_text c.args.types.now) (label_text c.args.labels.now)
-    (tree_of c.args.table.now.nodes c.in-Project.i.0) in
     in_words c.extend-in-Project-3.result c.extend-in-Project-3.new.self
     (c.write_coercion-in-Project.new.text ++ codes ")") _
-    (ap (λ (l : List ℕ). l ++ codes ")")
-    (c.in_ok-write_coercion-in-Project.ensures
-    ∙ ap (λ (l : List ℕ). l ++ i_text)
-    (c.in_ok-extend-in-Project-2.ensures.ok
-    ∙ ap (λ (l : List ℕ). l ++ codes " ")
-    (c.in_ok-write_project-in-Project.ensures
-    ∙ ap (λ (l : List ℕ). l ++ wanted_text) c.in_ok-extend-in-Project.ensures.ok)))
-    ∙ project_before_written (type_text c.args.types.now) (label_text c.args.labels.now) c.args.table.now.nodes
+    (project_before_written (type_text c.args.types.now) (label_text c.args.labels.now) c.args.table.now.nodes
     c.len.ensures.nodes.ordered.before c.args.c.0 c.args.text.now c.in-Project.wanted.0 c.in-Project.label.0
     c.in-Project.i.0 (c.node.ensures ∙ ap (λ n. Some (node_of n)) c.in-Project.is)
-    (sym c.is_id-in-Project.ensures ∙ c.if-is_id-2.false)) c.extend-in-Project-3.ensures.ok
+    (sym c.is_id-in-Project.ensures ∙ c.if-is_id-2.false) c.in_ok-extend-in-Project.ensures.ok
+    c.in_ok-write_project-in-Project.ensures c.in_ok-extend-in-Project-2.ensures.ok
+    c.in_ok-write_coercion-in-Project.ensures) c.extend-in-Project-3.ensures.ok
 
 -- ---- parts
 

@@ -4,17 +4,15 @@ use Rattle.type_graph.specs.Rows.{places_of}
 use Rattle.type_graph.specs.Trees.{EndsWithin, above_all, height}
 use Rattle.type_graph.specs.TypeTables.{HasMoreRows}
 use Rattle.consistency.specs.Blending.{blend_each, blend_to}
-use Rattle.consistency.specs.Known.{AreFormed, EachFormed, firsts, seconds}
+use Rattle.consistency.specs.Known.{AreFormed, EachFormed}
+use Rattle.consistency.specs.Pairs.{firsts, seconds}
 use Rattle.consistency.proofs.blends.+form.Given as goal
 
 abbrev pub decreases-form : goal.decreases-form
-decreases-form l = 3 * height l.types.now l.a.0 + 2
-
-abbrev pub decreases-form_row : goal.decreases-form_row
-decreases-form_row l = 3 * height l.types.now l.a.0 + 1
+decreases-form l = 2 * height l.types.now l.pair.first.0 + 1
 
 abbrev pub decreases-form_each : goal.decreases-form_each
-decreases-form_each l = 3 * above_all (height l.types.now) (firsts l.pairs.now)
+decreases-form_each l = 2 * above_all (height l.types.now) (firsts l.pairs.now)
 
 abbrev pub invariant-form_each-loop-pair : goal.invariant-form_each-loop-pair
 invariant-form_each-loop-pair l = record {

@@ -1,115 +1,75 @@
-use Rattle.std.proofs.Common.{sym, ap, ◌∙◌, arith}
-use Rattle.std.specs.Prelude.{◌&&◌}
-use Rattle.type_graph.proofs.Public.{pair_among, function_parts, tuple_parts, reference_part, vector_part}
-use Rattle.type_graph.proofs.Public.{related_more, related_fails, related_lengths, same_answer}
+use Rattle.std.proofs.Common.{◌≡◌, sym, ap₂, ◌∙◌, arith, rules}
+use Rattle.type_graph.specs.Rows.{row_of}
+use Rattle.type_graph.specs.Trees.{height, related}
 use Rattle.consistency.specs.Consistency.{consistent}
-use Rattle.consistency.proofs.ConsistentLemmas.{functions_consistent, tuples_consistent, references_consistent}
-use Rattle.consistency.proofs.ConsistentLemmas.{vectors_consistent}
+use Rattle.consistency.proofs.ConsistentLemmas.{dyn_consistent, consistent_dyn, heads_differ, heads_agree}
+use Rattle.consistency.proofs.ConsistentLemmas.{pairs_fail, pairs_more}
+use Rattle.consistency.proofs.BlendLemmas.{nowhere, first_below_all, pairs_of_parts_fit}
 use Rattle.consistency.proofs.checks.+check.Goals as goal
-
-pub check_each-returns-then-parts-others-clause-answer : goal.check_each-returns-then-parts-others-clause-answer
-check_each-returns-then-parts-others-clause-answer t c =
-    sym (related_lengths (consistent c.args.types.now) c.args.parts.now c.args.others.now c.if-parts-others.true)
 
 pub check_each-check-requires : goal.check_each-check-requires
 check_each-check-requires t c =
-    let pair = pair_among c.args.types.now c.args.parts.now c.args.others.now c.if-parts-others.false
-    c.loop-i.i c.loop-i-test.true c.requires.parts c.requires.others in
-    (omega (arith, c.decreases, pair.0.lower), (pair.0.within, (pair.1.within, c.loop-i.invariant.known)))
+    let below = first_below_all (height c.args.types.now) c.args.pairs.now c.loop-pair.pair-index nowhere
+    c.loop-pair-test.true in (
+      omega (arith, c.decreases, below),
+      (c.requires.pairs c.loop-pair.pair-index nowhere c.loop-pair-test.true, c.loop-pair.invariant.known),
+    )
 
 pub check_each-returns-then-not-branch-clause-answer : goal.check_each-returns-then-not-branch-clause-answer
 check_each-returns-then-not-branch-clause-answer t c =
-    sym (related_fails (consistent c.args.types.now) c.args.parts.now c.args.others.now
-    c.if-parts-others.false c.loop-i.i c.loop-i-test.true
-    (sym c.in_ok-check.ensures.answer ∙ c.if-not-branch.true))
+    sym (pairs_fail (consistent c.args.types.now) c.args.pairs.now c.loop-pair.pair-index nowhere
+    c.loop-pair-test.true (sym c.in_ok-check.ensures.answer ∙ c.if-not-branch.true))
 
-pub check_each-loop-i-preserved : goal.check_each-loop-i-preserved
-check_each-loop-i-preserved t c = record {
-  known = c.in_ok-check.ensures.known;
-  related = related_more (consistent c.args.types.now) c.args.parts.now c.args.others.now
-      c.if-parts-others.false c.loop-i.i c.loop-i-test.true c.loop-i.invariant.related
+pub check_each-loop-pair-preserved : goal.check_each-loop-pair-preserved
+check_each-loop-pair-preserved t c = record {
+  related = pairs_more (consistent c.args.types.now) c.args.pairs.now c.loop-pair.pair-index nowhere
+      c.loop-pair-test.true c.loop-pair.invariant.related
       (sym c.in_ok-check.ensures.answer ∙ c.if-not-branch.false);
+  known = c.in_ok-check.ensures.known;
 }
 
-pub check_rows-check_each-requires : goal.check_rows-check_each-requires
-check_rows-check_each-requires t c =
-    let first = function_parts c.args.types.now c.len.ensures.table.finite c.args.a.0 c.in-Fun-Fun.is-0 c.row.ensures in
-    let second = function_parts c.args.types.now c.len.ensures.table.finite c.args.b.0 c.in-Fun-Fun.is-1 c.row-2.ensures
-    in
-    rw (c.as_slice.ensures, c.as_slice-in-Fun-Fun.ensures) (
-      omega (arith, c.decreases, first.0.lower),
-      (first.0.within, (second.0.within, c.requires.known)),
-    )
+pub check-returns-then-is_dyn-clause-answer : goal.check-returns-then-is_dyn-clause-answer
+check-returns-then-is_dyn-clause-answer t c =
+    sym (dyn_consistent c.args.types.now c.len.ensures.table.finite c.args.pair.first.0 c.args.pair.second.0
+    c.requires.pair.first (row_of c.row-row.result.now) (row_of c.row-other.result.now) c.row-row.ensures
+    c.row-other.ensures (sym c.is_dyn.ensures ∙ c.if-is_dyn.true))
 
-pub check_rows-returns-then-not-branch-clause-answer : goal.check_rows-returns-then-not-branch-clause-answer
-check_rows-returns-then-not-branch-clause-answer t c =
-    let answer = rw (c.as_slice.ensures, c.as_slice-in-Fun-Fun.ensures)
-    at c.in_ok-check_each-in-Fun-Fun.ensures.answer in
-    ap (λ b. b && consistent c.args.types.now c.in-Fun-Fun.result.0 c.in-Fun-Fun.other.0)
-    (sym c.if-not-branch.true ∙ answer)
-    ∙ sym (functions_consistent c.args.types.now c.len.ensures.table.finite c.args.a.0 c.args.b.0 c.requires.a
-    c.in-Fun-Fun.is-0 c.in-Fun-Fun.is-1 c.row.ensures c.row-2.ensures)
+pub check-returns-then-is_dyn-2-clause-answer : goal.check-returns-then-is_dyn-2-clause-answer
+check-returns-then-is_dyn-2-clause-answer t c =
+    sym (consistent_dyn c.args.types.now c.len.ensures.table.finite c.args.pair.first.0 c.args.pair.second.0
+    c.requires.pair.first (row_of c.row-row.result.now) (row_of c.row-other.result.now) c.row-row.ensures
+    c.row-other.ensures (sym c.is_dyn.ensures ∙ c.if-is_dyn.false) (sym c.is_dyn-2.ensures ∙ c.if-is_dyn-2.true))
 
-pub check_rows-check-requires : goal.check_rows-check-requires
-check_rows-check-requires t c =
-    let first = function_parts c.args.types.now c.len.ensures.table.finite c.args.a.0 c.in-Fun-Fun.is-0 c.row.ensures in
-    let second = function_parts c.args.types.now c.len.ensures.table.finite c.args.b.0 c.in-Fun-Fun.is-1 c.row-2.ensures
-    in (
-      omega (arith, c.decreases, first.1.lower),
-      (first.1.within, (second.1.within, c.in_ok-check_each-in-Fun-Fun.ensures.known)),
-    )
+pub check-returns-then-not-same_head-clause-answer : goal.check-returns-then-not-same_head-clause-answer
+check-returns-then-not-same_head-clause-answer t c =
+    sym (heads_differ c.args.types.now c.len.ensures.table.finite c.args.pair.first.0 c.args.pair.second.0
+    c.requires.pair.first (row_of c.row-row.result.now) (row_of c.row-other.result.now) c.row-row.ensures
+    c.row-other.ensures (sym c.is_dyn.ensures ∙ c.if-is_dyn.false) (sym c.is_dyn-2.ensures ∙ c.if-is_dyn-2.false)
+    (sym (c.same_head.ensures _ _ c.row-row.ensures c.row-other.ensures) ∙ c.if-not-same_head.true))
 
-pub check_rows-returns-else-not-branch-clause-answer : goal.check_rows-returns-else-not-branch-clause-answer
-check_rows-returns-else-not-branch-clause-answer t c =
-    let answer = rw (c.as_slice.ensures, c.as_slice-in-Fun-Fun.ensures)
-    at c.in_ok-check_each-in-Fun-Fun.ensures.answer in
-    same_answer c.check.result _ _ c.check.ensures.answer
-    (ap (λ b. b && consistent c.args.types.now c.in-Fun-Fun.result.0 c.in-Fun-Fun.other.0)
-    (sym c.if-not-branch.false ∙ answer)
-    ∙ sym (functions_consistent c.args.types.now c.len.ensures.table.finite c.args.a.0 c.args.b.0 c.requires.a
-    c.in-Fun-Fun.is-0 c.in-Fun-Fun.is-1 c.row.ensures c.row-2.ensures))
+pub check-pairs_of_parts-requires : goal.check-pairs_of_parts-requires
+check-pairs_of_parts-requires t c =
+    sym (c.same_head.ensures _ _ c.row-row.ensures c.row-other.ensures) ∙ c.if-not-same_head.false
 
-pub check_rows-check_each-requires-in-Tuple-Tuple : goal.check_rows-check_each-requires-in-Tuple-Tuple
-check_rows-check_each-requires-in-Tuple-Tuple t c =
-    let first = tuple_parts c.args.types.now c.len.ensures.table.finite c.args.a.0 c.in-Tuple-Tuple.is-0 c.row.ensures
-    in
-    let second = tuple_parts c.args.types.now c.len.ensures.table.finite c.args.b.0 c.in-Tuple-Tuple.is-1
-    c.row-2.ensures in
-    rw (c.as_slice-in-Tuple-Tuple.ensures, c.as_slice-in-Tuple-Tuple-2.ensures) (
-      omega (arith, c.decreases, first.lower),
-      (first.within, (second.within, c.requires.known)),
-    )
+pub check-check_each-requires : goal.check-check_each-requires
+check-check_each-requires t c =
+    let fit = pairs_of_parts_fit c.args.types.now c.len.ensures.table.finite c.args.pair.first.0 c.args.pair.second.0
+    (row_of c.row-row.result.now) (row_of c.row-other.result.now) c.in_ok-pairs.pairs.items c.row-row.ensures
+    c.row-other.ensures c.in_ok-pairs.ensures.firsts c.in_ok-pairs.ensures.seconds in
+    rw c.as_slice.ensures.value (omega (arith, c.decreases, fit.0), (fit.1, c.requires.known))
 
-pub check_rows-returns-in-Tuple-Tuple-clause-answer : goal.check_rows-returns-in-Tuple-Tuple-clause-answer
-check_rows-returns-in-Tuple-Tuple-clause-answer t c =
-    same_answer c.check_each-in-Tuple-Tuple.result _ _
-    (rw (c.as_slice-in-Tuple-Tuple.ensures, c.as_slice-in-Tuple-Tuple-2.ensures)
-    at c.check_each-in-Tuple-Tuple.ensures.answer)
-    (sym (tuples_consistent c.args.types.now c.len.ensures.table.finite c.args.a.0 c.args.b.0 c.requires.a
-    c.in-Tuple-Tuple.is-0 c.in-Tuple-Tuple.is-1 c.row.ensures c.row-2.ensures))
+pub check-returns-clause-answer : goal.check-returns-clause-answer
+check-returns-clause-answer t c =
+    (rw c.as_slice.ensures.value at c.in_ok-answer.ensures.answer)
+    ∙ ap₂ (λ xs ys. related (consistent c.args.types.now) xs ys) c.in_ok-pairs.ensures.firsts
+    c.in_ok-pairs.ensures.seconds
+    ∙ sym (heads_agree c.args.types.now c.len.ensures.table.finite c.args.pair.first.0 c.args.pair.second.0
+    c.requires.pair.first (row_of c.row-row.result.now) (row_of c.row-other.result.now) c.row-row.ensures
+    c.row-other.ensures (sym c.is_dyn.ensures ∙ c.if-is_dyn.false) (sym c.is_dyn-2.ensures ∙ c.if-is_dyn-2.false)
+    (sym (c.same_head.ensures _ _ c.row-row.ensures c.row-other.ensures) ∙ c.if-not-same_head.false))
 
-pub check_rows-check-requires-in-Ref-Ref : goal.check_rows-check-requires-in-Ref-Ref
-check_rows-check-requires-in-Ref-Ref t c =
-    let first = reference_part c.args.types.now c.len.ensures.table.finite c.args.a.0 c.in-Ref-Ref.is-0 c.row.ensures in
-    let second = reference_part c.args.types.now c.len.ensures.table.finite c.args.b.0 c.in-Ref-Ref.is-1 c.row-2.ensures
-    in
-    (omega (arith, c.decreases, first.lower), (first.within, (second.within, c.requires.known)))
-
-pub check_rows-returns-in-Ref-Ref-clause-answer : goal.check_rows-returns-in-Ref-Ref-clause-answer
-check_rows-returns-in-Ref-Ref-clause-answer t c =
-    same_answer c.check-in-Ref-Ref.result _ _ c.check-in-Ref-Ref.ensures.answer
-    (sym (references_consistent c.args.types.now c.len.ensures.table.finite c.args.a.0 c.args.b.0 c.requires.a
-    c.in-Ref-Ref.is-0 c.in-Ref-Ref.is-1 c.row.ensures c.row-2.ensures))
-
-pub check_rows-check-requires-in-Vect-Vect : goal.check_rows-check-requires-in-Vect-Vect
-check_rows-check-requires-in-Vect-Vect t c =
-    let first = vector_part c.args.types.now c.len.ensures.table.finite c.args.a.0 c.in-Vect-Vect.is-0 c.row.ensures in
-    let second = vector_part c.args.types.now c.len.ensures.table.finite c.args.b.0 c.in-Vect-Vect.is-1 c.row-2.ensures
-    in
-    (omega (arith, c.decreases, first.lower), (first.within, (second.within, c.requires.known)))
-
-pub check_rows-returns-in-Vect-Vect-clause-answer : goal.check_rows-returns-in-Vect-Vect-clause-answer
-check_rows-returns-in-Vect-Vect-clause-answer t c =
-    same_answer c.check-in-Vect-Vect.result _ _ c.check-in-Vect-Vect.ensures.answer
-    (sym (vectors_consistent c.args.types.now c.len.ensures.table.finite c.args.a.0 c.args.b.0 c.requires.a
-    c.in-Vect-Vect.is-0 c.in-Vect-Vect.is-1 c.row.ensures c.row-2.ensures))
+pub check-returns-clause-known : goal.check-returns-clause-known
+check-returns-clause-known t c =
+    let answer : c.in_ok-answer.answer ≡ consistent c.args.types.now c.args.pair.first.0 c.args.pair.second.0 =
+    check-returns-clause-answer t c in
+    search (rules, answer)

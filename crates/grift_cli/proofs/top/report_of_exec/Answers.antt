@@ -13,15 +13,20 @@ returns-in-Err g c words img is none =
 pub returns-in-Ok-read_image : goal.returns-in-Ok-read_image
 returns-in-Ok-read_image g c words img is none =
     let loaded = c.in-Ok.loaded in
-    says_exec _ c.args.limits c.in-Ok-read_image.image loaded.input c.exec_image.result (record {
-      file = c.args.file.now;
-      input_name = name_bytes c.args.input;
-      loaded = has_loaded _ (Exec c.args.file.now c.args.limits (name_bytes c.args.input)) _ c.in-Ok-read_image.image
-          loaded.input loaded.bytes loaded.input is refl c.in-Ok.ensures
-          (c.in-Ok-read_image.ensures.image ∙ c.as_slice.ensures) refl;
-      whole = subst IsImage c.image.view_is c.image.invariant;
-      no_image = none;
-    }) c.exec_image.ensures
+    says_exec _ (record {
+      limits = c.args.limits;
+      image = c.in-Ok-read_image.image;
+      input = loaded.input;
+      image_file = record {
+        file = c.args.file.now;
+        input_name = name_bytes c.args.input;
+        loaded = has_loaded _ (Exec c.args.file.now c.args.limits (name_bytes c.args.input)) _
+            c.in-Ok-read_image.image loaded.input loaded.bytes loaded.input is refl c.in-Ok.ensures
+            (c.in-Ok-read_image.ensures.image ∙ c.as_slice.ensures) refl;
+        whole = subst IsImage c.image.view_is c.image.invariant;
+        no_image = none;
+      };
+    }) c.exec_image.result c.exec_image.ensures
 
 pub returns : goal.returns
 returns g c words img is none =

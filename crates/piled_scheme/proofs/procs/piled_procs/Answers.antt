@@ -1,4 +1,4 @@
-use Rattle.std.proofs.Common.{ap, refl}
+use Rattle.std.proofs.Common.{ap}
 use Rattle.low_ir.specs.Views.{procs_of}
 use Rattle.piled_scheme.proofs.procs.piled_procs.Goals as goal
 

@@ -4,8 +4,9 @@ use Rattle.surface_syntax.proofs.derived.counting.Goals as goal
 pub returns : goal.returns
 returns c =
     rw (
-      IfOk-at_ok _ c.in_ok-body.ensures.second c.counter_params.ensures,
-      c.base_at.ensures,
-      IfOk-at_ok _ c.in_ok-body.ensures.first c.loop_body-body.ensures,
-      c.in_ok-turn.ensures,
-    )
+      ← IfOk-at_ok _ c.in_ok-turn.ensures.first c.counting_turn-turn.ensures,
+      ← IfOk-at_ok _ c.in_ok-turn.ensures.second c.unit_at.ensures,
+      ← IfOk-at_ok _ c.in_ok-body.ensures.first c.loop_body-body.ensures,
+      ← IfOk-at_ok _ c.in_ok-body.ensures.second c.counter_params.ensures,
+      ← c.base_at.ensures,
+    ) c.lambda_at.ensures

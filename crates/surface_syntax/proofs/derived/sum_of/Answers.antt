@@ -7,8 +7,10 @@ use Rattle.surface_syntax.proofs.derived.sum_of.Goals as goal
 pub returns-clause-written : goal.returns-clause-written
 returns-clause-written c =
     c.type_or_dyn.ensures ∙ ap (λ parts. type_or_dyn c.args.pos (written_of parts.1)) c.parts-ty.ensures
-    ∙ ap (λ b. type_or_dyn c.args.pos (type_of_binding b)) c.in_ok-start.ensures.value
+    ∙ ap (λ b. type_or_dyn c.args.pos (type_of_binding b)) (c.into_inner.ensures
+    ∙ ap (λ b. b.value) c.in_ok-start.ensures.value)
 
 pub returns-clause-value : goal.returns-clause-value
 returns-clause-value c =
-    ap (λ parts. expr_of parts.2) c.parts-ty.ensures ∙ ap value_of_binding c.in_ok-start.ensures.value
+    ap expr_of c.in_ok-value.ensures ∙ ap (λ parts. expr_of parts.2) c.parts-ty.ensures
+    ∙ ap value_of_binding (c.into_inner.ensures ∙ ap (λ b. b.value) c.in_ok-start.ensures.value)

@@ -7,7 +7,7 @@ use Rattle.surface_syntax.specs.Marked.{marked, all_marked}
 use Rattle.surface_syntax.specs.Walking.{Reads, Refuses}
 use Rattle.surface_syntax.specs.Pass.{parse_list, parse_within}
 use Rattle.surface_trees.specs.Views.{expr_of, exprs_of, params_of, lambda_of}
-use Rattle.surface_syntax.specs.Parts.{range_of, bound_of, member_of, parse_call}
+use Rattle.surface_syntax.specs.Parts.{range_of, bound_of, member_of, parse_call, in_box}
 use Rattle.surface_syntax.specs.Forms.{headed_of, lambda_from}
 use Rattle.surface_syntax.specs.Claims.{Parses}
 use Rattle.surface_syntax.proofs.Steps.{place_marked}
@@ -68,13 +68,13 @@ projection-returns t c =
 
 pub binding-returns-in_err-bound-clause-binding : goal.binding-returns-in_err-bound-clause-binding
 binding-returns-in_err-bound-clause-binding t c =
-    subst (λ w. Parses c.from_residual.result bound_of c.args.names.now w)
+    subst (λ w. Parses c.from_residual.result (in_box bound_of) c.args.names.now w)
     (sym (binding_row c.args.scope.now (marked (datum_of c.args.sexp.now)) c.args.names.now))
     (plain_exit _ _ _ _ _ _ _ _ _ c.in_err-bound.was c.from_residual.ensures.1 c.bound_to.ensures.name)
 
 pub binding-returns-in_err-value-clause-binding : goal.binding-returns-in_err-value-clause-binding
 binding-returns-in_err-value-clause-binding t c =
-    subst (λ w. Parses c.from_residual-in_err-value.result bound_of c.expr.new.names w)
+    subst (λ w. Parses c.from_residual-in_err-value.result (in_box bound_of) c.expr.new.names w)
     (sym (binding_row c.args.scope.now (marked (datum_of c.args.sexp.now)) c.args.names.now))
     (bind_ok _ _ _ _ _ _ _ (plain_reads _ _ _ c.in_ok-bound.ensures.name)
     (bind_exit _ _ _ _ _ _ _ _ _ c.in_err-value.was c.from_residual-in_err-value.ensures.1 c.expr.ensures))
@@ -83,17 +83,21 @@ pub binding-returns-clause-binding : goal.binding-returns-clause-binding
 binding-returns-clause-binding t c =
     binding_row c.args.scope.now (marked (datum_of c.args.sexp.now)) c.args.names.now
     ∙ bind_reads _ _ _ _ _ (plain_reads _ _ _ c.in_ok-bound.ensures.name)
-    (bind_reads _ _ _ _ _ c.in_ok-value.ensures refl)
+    (bind_reads _ _ _ _ _ c.in_ok-value.ensures (rw (
+      c.in_ok-binding_of.ensures.name,
+      c.in_ok-binding_of.ensures.written,
+      c.in_ok-binding_of.ensures.value,
+    ) refl))
 
 pub member-returns-in_err-bound-clause-member : goal.member-returns-in_err-bound-clause-member
 member-returns-in_err-bound-clause-member t c =
-    subst (λ w. Parses c.from_residual.result member_of c.args.names.now w)
+    subst (λ w. Parses c.from_residual.result (in_box member_of) c.args.names.now w)
     (sym (member_row c.args.scope.now (marked (datum_of c.args.sexp.now)) c.args.names.now))
     (plain_exit _ _ _ _ _ _ _ _ _ c.in_err-bound.was c.from_residual.ensures.1 c.bound_to.ensures.name)
 
 pub member-returns-in_err-fun-clause-member : goal.member-returns-in_err-fun-clause-member
 member-returns-in_err-fun-clause-member t c =
-    subst (λ w. Parses c.from_residual-in_err-fun.result member_of c.function.new.names w)
+    subst (λ w. Parses c.from_residual-in_err-fun.result (in_box member_of) c.function.new.names w)
     (sym (member_row c.args.scope.now (marked (datum_of c.args.sexp.now)) c.args.names.now))
     (bind_ok _ _ _ _ _ _ _ (plain_reads _ _ _ c.in_ok-bound.ensures.name)
     (bind_exit _ _ _ _ _ _ _ _ _ c.in_err-fun.was c.from_residual-in_err-fun.ensures.1 c.function.ensures))
@@ -102,19 +106,24 @@ pub member-returns-clause-member : goal.member-returns-clause-member
 member-returns-clause-member t c =
     member_row c.args.scope.now (marked (datum_of c.args.sexp.now)) c.args.names.now
     ∙ bind_reads _ _ _ _ _ (plain_reads _ _ _ c.in_ok-bound.ensures.name)
-    (bind_reads _ _ _ _ _ c.in_ok-fun.ensures refl)
+    (bind_reads _ _ _ _ _ c.in_ok-fun.ensures (rw (
+      c.in_ok-member_of.ensures.name,
+      c.in_ok-member_of.ensures.written,
+      c.in_ok-member_of.ensures.fun,
+    ) refl))
 
 pub call-returns-in_err-function : goal.call-returns-in_err-function
 call-returns-in_err-function t c =
-    subst (λ ds. Parses c.from_residual.result expr_of c.expr.new.names (parse_call c.args.pos ds c.args.names.now))
+    subst (λ ds. Parses c.from_residual.result (in_box expr_of) c.expr.new.names
+    (parse_call c.args.pos ds c.args.names.now))
     (sym (one_first c.args.elements.now c.in-Cons.is))
     (bind_exit _ _ _ _ _ _ _ _ _ c.in_err-function.was c.from_residual.ensures.1
     (rw c.deref.ensures at c.expr.ensures))
 
 pub call-returns-in_err-arguments : goal.call-returns-in_err-arguments
 call-returns-in_err-arguments t c =
-    subst (λ ds. Parses c.from_residual-in_err-arguments.result expr_of c.within.new.names (parse_call c.args.pos ds
-    c.args.names.now)) (sym (one_first c.args.elements.now c.in-Cons.is))
+    subst (λ ds. Parses c.from_residual-in_err-arguments.result (in_box expr_of) c.within.new.names
+    (parse_call c.args.pos ds c.args.names.now)) (sym (one_first c.args.elements.now c.in-Cons.is))
     (bind_ok _ _ _ _ _ _ _ (rw c.deref.ensures at c.in_ok-function.ensures)
     (bind_exit _ _ _ _ _ _ _ _ _ c.in_err-arguments.was c.from_residual-in_err-arguments.ensures.1
     (rw c.deref-2.ensures at c.within.ensures)))
@@ -141,28 +150,29 @@ each-loop-left-preserved t c = (
 pub function-returns-in_err-elements : goal.function-returns-in_err-elements
 function-returns-in_err-elements t c =
     let row = function_row (marked (datum_of c.args.sexp.now)) c.args.names.now in
-    subst (λ w. Parses c.from_residual.result lambda_of c.args.names.now w) (sym row)
+    subst (λ w. Parses c.from_residual.result (in_box lambda_of) c.args.names.now w) (sym row)
     (plain_exit _ _ _ _ _ _ _ _ _ c.in_err-elements.was c.from_residual.ensures.1 c.behind_lambda.ensures.behind)
 
 pub function-returns : goal.function-returns
 function-returns t c =
     let row = function_row (marked (datum_of c.args.sexp.now)) c.args.names.now in
     let at = place_marked (out-Sexp c.args.sexp.now).pos (out-Sexp c.args.sexp.now).node in
-    subst (λ w. Parses c.lambda.result lambda_of c.lambda.new.names w) (sym row)
+    subst (λ w. Parses c.lambda.result (in_box lambda_of) c.lambda.new.names w) (sym row)
     (bind_ok _ _ _ _ _ _ _ (plain_reads _ _ _ c.in_ok-elements.ensures.behind)
-    (subst (λ p. Parses c.lambda.result lambda_of c.lambda.new.names (lambda_from p (all_marked (datums_of
+    (subst (λ p. Parses c.lambda.result (in_box lambda_of) c.lambda.new.names (lambda_from p (all_marked (datums_of
     c.in_ok-elements.elements.now)) c.args.names.now)) (sym at) c.lambda.ensures))
 
 pub headed-returns-in_err-lambda-in-Lambda : goal.headed-returns-in_err-lambda-in-Lambda
 headed-returns-in_err-lambda-in-Lambda t c =
-    subst (λ w. Parses c.from_residual.result expr_of c.lambda.new.names (headed_of w c.args.pos (all_marked (datums_of
-    c.args.rest.now)) c.args.names.now)) (sym c.in-Lambda.is)
+    subst (λ w. Parses c.from_residual.result (in_box expr_of) c.lambda.new.names
+    (headed_of w c.args.pos (all_marked (datums_of c.args.rest.now)) c.args.names.now)) (sym c.in-Lambda.is)
     (bind_exit _ _ _ _ _ _ _ _ _ c.in_err-lambda-in-Lambda.was c.from_residual.ensures.1 c.lambda.ensures)
 
-pub headed-returns-in_ok-lambda-in-Lambda : goal.headed-returns-in_ok-lambda-in-Lambda
-headed-returns-in_ok-lambda-in-Lambda t c =
+pub headed-returns-in_ok-function_at-in-Lambda : goal.headed-returns-in_ok-function_at-in-Lambda
+headed-returns-in_ok-function_at-in-Lambda t c =
     ap (λ w. headed_of w c.args.pos (all_marked (datums_of c.args.rest.now)) c.args.names.now) c.in-Lambda.is
-    ∙ bind_reads _ _ _ _ _ c.in_ok-lambda-in-Lambda.ensures refl
+    ∙ bind_reads _ _ _ _ _ c.in_ok-lambda-in-Lambda.ensures
+    (ap (λ e. Reads (e, c.lambda.new.names)) (sym c.in_ok-function_at-in-Lambda.ensures))
 
 pub headed-returns-in-Let : goal.headed-returns-in-Let
 headed-returns-in-Let t c = headed_by _ _ _ _ _ _ _ _ c.in-Let.is c.let_form.ensures
@@ -246,7 +256,7 @@ pub lambda_with-returns-in_err-typed : goal.lambda_with-returns-in_err-typed
 lambda_with-returns-in_err-typed t c =
     let row = behind_row c.args.pos (params_of c.args.params) (all_marked (datums_of c.args.rest.now))
     c.args.names.now in
-    subst (λ w. Parses c.from_residual.result lambda_of c.args.names.now w) (sym row)
+    subst (λ w. Parses c.from_residual.result (in_box lambda_of) c.args.names.now w) (sym row)
     (plain_exit _ _ _ _ _ _ _ _ _ c.in_err-typed.was c.from_residual.ensures.1 c.typed_body.ensures.parts)
 
 pub lambda_with-returns-in_err-body : goal.lambda_with-returns-in_err-body
@@ -254,9 +264,9 @@ lambda_with-returns-in_err-body t c =
     let row = behind_row c.args.pos (params_of c.args.params) (all_marked (datums_of c.args.rest.now))
     c.args.names.now in
     let none = none_of c.in_ok-typed.typed c.in_default.not-Some in
-    subst (λ w. Parses c.from_residual-in_err-body.result lambda_of c.each.new.names w) (sym row)
+    subst (λ w. Parses c.from_residual-in_err-body.result (in_box lambda_of) c.each.new.names w) (sym row)
     (bind_ok _ _ _ _ _ _ _ (plain_reads _ _ _ c.in_ok-typed.ensures.parts)
-    (subst (λ w. Parses c.from_residual-in_err-body.result lambda_of c.each.new.names w)
+    (subst (λ w. Parses c.from_residual-in_err-body.result (in_box lambda_of) c.each.new.names w)
     (sym (plain_body _ _ _ _ _ _ none))
     (bind_exit _ _ _ _ _ _ _ _ _ c.in_err-body.was c.from_residual-in_err-body.ensures.1 c.each.ensures)))
 
@@ -266,15 +276,16 @@ lambda_with-returns-in_default t c =
     c.args.names.now in
     let none = none_of c.in_ok-typed.typed c.in_default.not-Some in
     row ∙ bind_reads _ _ _ _ _ (plain_reads _ _ _ c.in_ok-typed.ensures.parts)
-    (plain_body _ _ _ _ _ _ none ∙ bind_reads _ _ _ _ _ c.in_ok-body.ensures refl)
+    (plain_body _ _ _ _ _ _ none ∙ bind_reads _ _ _ _ _ c.in_ok-body.ensures
+    (ap (λ l. Reads (l, c.each.new.names)) (sym c.in_ok-lambda_at.ensures)))
 
 pub lambda_with-returns-in_err-result_type : goal.lambda_with-returns-in_err-result_type
 lambda_with-returns-in_err-result_type t c =
     let row = behind_row c.args.pos (params_of c.args.params) (all_marked (datums_of c.args.rest.now))
     c.args.names.now in
-    subst (λ w. Parses c.from_residual-in_err-result_type.result lambda_of c.args.names.now w) (sym row)
+    subst (λ w. Parses c.from_residual-in_err-result_type.result (in_box lambda_of) c.args.names.now w) (sym row)
     (bind_ok _ _ _ _ _ _ _ (plain_reads _ _ _ c.in_ok-typed.ensures.parts)
-    (subst (λ w. Parses c.from_residual-in_err-result_type.result lambda_of c.args.names.now w)
+    (subst (λ w. Parses c.from_residual-in_err-result_type.result (in_box lambda_of) c.args.names.now w)
     (sym (typed_here _ _ c.in-Some.typed _ _ _ _ c.in-Some.is))
     (plain_exit _ _ _ _ _ _ _ _ _ c.in_err-result_type.was c.from_residual-in_err-result_type.ensures.1
     c.type_expr.ensures)))
@@ -283,9 +294,9 @@ pub lambda_with-returns-in_err-body-2 : goal.lambda_with-returns-in_err-body-2
 lambda_with-returns-in_err-body-2 t c =
     let row = behind_row c.args.pos (params_of c.args.params) (all_marked (datums_of c.args.rest.now))
     c.args.names.now in
-    subst (λ w. Parses c.from_residual-in_err-body-2.result lambda_of c.each-2.new.names w) (sym row)
+    subst (λ w. Parses c.from_residual-in_err-body-2.result (in_box lambda_of) c.each-2.new.names w) (sym row)
     (bind_ok _ _ _ _ _ _ _ (plain_reads _ _ _ c.in_ok-typed.ensures.parts)
-    (subst (λ w. Parses c.from_residual-in_err-body-2.result lambda_of c.each-2.new.names w)
+    (subst (λ w. Parses c.from_residual-in_err-body-2.result (in_box lambda_of) c.each-2.new.names w)
     (sym (typed_here _ _ c.in-Some.typed _ _ _ _ c.in-Some.is))
     (bind_ok _ _ _ _ _ _ _ (plain_reads _ _ _ c.in_ok-result_type.ensures)
     (bind_exit _ _ _ _ _ _ _ _ _ c.in_err-body-2.was c.from_residual-in_err-body-2.ensures.1 c.each-2.ensures))))
@@ -297,7 +308,8 @@ lambda_with-returns t c =
     row ∙ bind_reads _ _ _ _ _ (plain_reads _ _ _ c.in_ok-typed.ensures.parts)
     (typed_here _ _ c.in-Some.typed _ _ _ _ c.in-Some.is
     ∙ bind_reads _ _ _ _ _ (plain_reads _ _ _ c.in_ok-result_type.ensures)
-    (bind_reads _ _ _ _ _ c.in_ok-body-2.ensures refl))
+    (bind_reads _ _ _ _ _ c.in_ok-body-2.ensures
+    (ap (λ l. Reads (l, c.each-2.new.names)) (sym c.in_ok-lambda_at-2.ensures))))
 
 pub let_form-returns-in_err-bindings : goal.let_form-returns-in_err-bindings
 let_form-returns-in_err-bindings t c =
@@ -319,7 +331,7 @@ let_form-returns t c =
     bind_reads _ _ _ _ _ (plain_reads _ _ _ c.in_ok-bindings.ensures.elements)
     (bind_reads _ _ _ _ _ c.in_ok-bindings-2.ensures
     (bind_reads _ _ _ _ _ c.in_ok-body.ensures
-    (refl)))
+    (ap (λ e. Reads (e, c.each.new.names)) (sym c.in_ok-let_at.ensures))))
 
 pub letrec_form-returns-in_err-members : goal.letrec_form-returns-in_err-members
 letrec_form-returns-in_err-members t c =
@@ -341,7 +353,7 @@ letrec_form-returns t c =
     bind_reads _ _ _ _ _ (plain_reads _ _ _ c.in_ok-members.ensures.elements)
     (bind_reads _ _ _ _ _ c.in_ok-members-2.ensures
     (bind_reads _ _ _ _ _ c.in_ok-body.ensures
-    (refl)))
+    (ap (λ e. Reads (e, c.each.new.names)) (sym c.in_ok-letrec_at.ensures))))
 
 pub letrecs-returns-in_err-first : goal.letrecs-returns-in_err-first
 letrecs-returns-in_err-first t c =
@@ -362,7 +374,7 @@ list-returns-in_default-word_at t c =
     c.in-Cons.rest.value)) c.args.names.now none in
     let same = ap (λ ds. parse_list c.args.pos ds c.args.names.now) shape ∙ row
     ∙ ap (λ ds. parse_call c.args.pos ds c.args.names.now) (sym shape) in
-    subst (λ w. Parses c.call.result expr_of c.call.new.names w) (sym same) c.call.ensures
+    subst (λ w. Parses c.call.result (in_box expr_of) c.call.new.names w) (sym same) c.call.ensures
 
 pub list-returns-then-is_arrow : goal.list-returns-then-is_arrow
 list-returns-then-is_arrow t c =
@@ -431,8 +443,8 @@ list-returns t c =
     let found = rw c.deref.ensures at (sym c.word_at.ensures ∙ c.in-Some.is) in
     let row = list_row c.args.pos (marked (datum_of c.in-Cons.head.value)) (all_marked (datums_of
     c.in-Cons.rest.value)) c.in-Some.word c.args.names.now found (sym c.is_arrow.ensures ∙ c.if-is_arrow.false) in
-    subst (λ ds. Parses c.headed.result expr_of c.headed.new.names (parse_list c.args.pos ds c.args.names.now))
-    (sym shape) (subst (λ w. Parses c.headed.result expr_of c.headed.new.names w) (sym row)
+    subst (λ ds. Parses c.headed.result (in_box expr_of) c.headed.new.names (parse_list c.args.pos ds c.args.names.now))
+    (sym shape) (subst (λ w. Parses c.headed.result (in_box expr_of) c.headed.new.names w) (sym row)
     (rw c.deref-2.ensures at c.headed.ensures))
 
 pub range-returns-in_err-parts : goal.range-returns-in_err-parts
@@ -488,7 +500,7 @@ repeat-returns-in_err-body t c =
     let none = none_of c.in_ok-parts.parts.start c.in_default.not-Some in
     bind_ok _ _ _ _ _ _ _ (plain_reads _ _ _ c.in_ok-parts.ensures.parts)
     (bind_ok _ _ _ _ _ _ _ c.in_ok-range.ensures
-    (subst (λ w. Parses c.from_residual-in_err-body.result expr_of c.expr.new.names w)
+    (subst (λ w. Parses c.from_residual-in_err-body.result (in_box expr_of) c.expr.new.names w)
     (sym (counted_here _ _ _ _ _ _ none))
     (bind_exit _ _ _ _ _ _ _ _ _ c.in_err-body.was c.from_residual-in_err-body.ensures.1 c.expr.ensures)))
 
@@ -506,7 +518,7 @@ pub repeat-returns-in_err-start : goal.repeat-returns-in_err-start
 repeat-returns-in_err-start t c =
     bind_ok _ _ _ _ _ _ _ (plain_reads _ _ _ c.in_ok-parts.ensures.parts)
     (bind_ok _ _ _ _ _ _ _ c.in_ok-range.ensures
-    (subst (λ w. Parses c.from_residual-in_err-start.result expr_of c.binding.new.names w)
+    (subst (λ w. Parses c.from_residual-in_err-start.result (in_box expr_of) c.binding.new.names w)
     (sym (gathered_here _ _ c.in-Some.start _ _ _ _ c.in-Some.is))
     (bind_exit _ _ _ _ _ _ _ _ _ c.in_err-start.was c.from_residual-in_err-start.ensures.1
     (rw c.in_ok-scope.ensures at c.binding.ensures.binding))))
@@ -515,7 +527,7 @@ pub repeat-returns-in_err-body-2 : goal.repeat-returns-in_err-body-2
 repeat-returns-in_err-body-2 t c =
     bind_ok _ _ _ _ _ _ _ (plain_reads _ _ _ c.in_ok-parts.ensures.parts)
     (bind_ok _ _ _ _ _ _ _ c.in_ok-range.ensures
-    (subst (λ w. Parses c.from_residual-in_err-body-2.result expr_of c.expr-2.new.names w)
+    (subst (λ w. Parses c.from_residual-in_err-body-2.result (in_box expr_of) c.expr-2.new.names w)
     (sym (gathered_here _ _ c.in-Some.start _ _ _ _ c.in-Some.is))
     (bind_ok _ _ _ _ _ _ _ (rw c.in_ok-scope.ensures at c.in_ok-start.ensures.binding)
     (bind_exit _ _ _ _ _ _ _ _ _ c.in_err-body-2.was c.from_residual-in_err-body-2.ensures.1 c.expr-2.ensures))))

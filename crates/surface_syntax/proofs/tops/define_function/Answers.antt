@@ -3,6 +3,7 @@ use Rattle.sexpr_reader.specs.View.{datums_of}
 use Rattle.surface_syntax.specs.Marked.{all_marked}
 use Rattle.surface_trees.specs.Views.{params_of, lambda_of}
 use Rattle.surface_syntax.specs.TopParts.{part_of}
+use Rattle.surface_syntax.specs.Parts.{in_box}
 use Rattle.surface_syntax.specs.Claims.{Parses}
 use Rattle.surface_syntax.proofs.FormRows.{bind_reads, bind_ok, bind_err, plain_reads, plain_err}
 use Rattle.surface_syntax.proofs.Shapes.{one_first}
@@ -26,7 +27,7 @@ returns-in_err-fun-clause-part c =
     (rw c.deref.ensures at c.in_ok-name.ensures.name) in
     subst (λ w. Parses c.from_residual-in_err-fun.result part_of c.lambda_with.new.names w) (sym row)
     (bind_ok _ _ _ _ _ _ _ (plain_reads _ _ _ (rw c.deref-2.ensures at c.in_ok-params.ensures))
-    (bind_err _ _ lambda_of part_of _ _ c.in_err-fun.field-0.0 c.lambda_with.result
+    (bind_err _ _ (in_box lambda_of) part_of _ _ c.in_err-fun.field-0.0 c.lambda_with.result
     c.from_residual-in_err-fun.result c.in_err-fun.was (search rules) c.lambda_with.ensures))
 
 pub returns-clause-part : goal.returns-clause-part

@@ -9,6 +9,7 @@ use Rattle.std.proofs.lemmas.Int.{to_z-of_z}
 use Rattle.std.specs.Prelude.{OnOk}
 use Rattle.core_calc.specs.Views.{names_of}
 use Rattle.coer_core.specs.declared.terms.CoerList.{the_lemmas as list_lemmas}
+use Rattle.coer_core.specs.declared.terms.CoerTerm.{CoerTerm}
 use Rattle.coer_core.specs.declared.terms.CoerMember.{out-CoerMember}
 use Rattle.coer_core.specs.declared.terms.CoerMembers.{the_lemmas as member_lemmas}
 use Rattle.coer_core.specs.declared.terms.CoerBindings.{the_lemmas as binding_lemmas}
@@ -700,6 +701,11 @@ code-returns t c =
           c.new-waits.ensures.depth) c.ahead_of.ensures;
     }
 
+-- a form of a part in a box, by the part
+boxed : {whole : RowTerm} {part inner : CoerTerm} (form : RowTerm → RowTerm) → whole ≡ form (row_term_of inner)
+    → part ≡ inner → whole ≡ form (row_term_of part)
+boxed form e f = e ∙ ap (λ x. form (row_term_of x)) (sym f)
+
 pub last-returns : goal.last-returns
 last-returns t c =
     let before = c.args.self.now in
@@ -731,7 +737,7 @@ last-returns t c =
           let parameters : List ℕ = names_of w.in-Lambda.params in
           let type : ℕ = w.in-Lambda.field-2.0 in
           ends (RowLambda parameters (row_term_of w.deref.result.now) type)
-          (ap row_term_of w.in-Lambda.is ∙ ap (λ x. RowLambda parameters (row_term_of x) type) (sym w.deref.ensures))
+          (boxed (λ x. RowLambda parameters x type) (ap row_term_of w.in-Lambda.is) w.deref.ensures)
           w.self-is w.waits-is w.last-is (opens w.lambda.new.self.names w.in_ok-lambda-in-Lambda.ensures.kept)
           (lambda_ends w.lambda.new.waits.waits.items w.in_ok-lambda-in-Lambda.ensures.adds
           w.in_ok-lambda-in-Lambda.ensures.waits
@@ -740,30 +746,29 @@ last-returns t c =
           let t : RowTerm = row_term_of w.deref-in-Group.result.now in
           let members : RowMembers = row_members_of w.in-Group.members in
           let g = w.in_ok-group-in-Group.ensures in
-          let l = w.in_ok-last-in-Group.ensures in
           ends (RowGroup members t)
-          (ap row_term_of w.in-Group.is ∙ ap (λ x. RowGroup members (row_term_of x)) (sym w.deref-in-Group.ensures))
-          w.self-is w.waits-is w.last-is
-          (opened_then before.names w.group.new.self.names w.last.new.self.names g.opened l.opened)
+          (boxed (RowGroup members) (ap row_term_of w.in-Group.is) w.deref-in-Group.ensures) w.self-is w.waits-is
+          w.last-is
+          (opened_then before.names w.group.new.self.names w.last.new.self.names g.opened
+          w.in_ok-last-in-Group.ensures.opened)
           (body_goes_on (RowGroup members t) t (group_goes_on members t g.hides g.adds) (λ outer r. g.body outer r t)
-          (record { adds = l.adds; at = l.body }))
+          (record { adds = w.in_ok-last-in-Group.ensures.adds; at = w.in_ok-last-in-Group.ensures.body }))
       | goal.last-in-Let+in_ok-bindings-in-Let+in_ok-last-in-Let w ↦
           let t : RowTerm = row_term_of w.deref-in-Let.result.now in
           let bindings : RowBindings = row_bindings_of w.in-Let.bindings in
           let g = w.in_ok-bindings-in-Let.ensures in
-          let l = w.in_ok-last-in-Let.ensures in
           ends (RowLet bindings t)
-          (ap row_term_of w.in-Let.is ∙ ap (λ x. RowLet bindings (row_term_of x)) (sym w.deref-in-Let.ensures))
-          w.self-is w.waits-is w.last-is
-          (opened_then before.names w.bindings.new.self.names w.last-in-Let.new.self.names g.opened l.opened)
+          (boxed (RowLet bindings) (ap row_term_of w.in-Let.is) w.deref-in-Let.ensures) w.self-is w.waits-is w.last-is
+          (opened_then before.names w.bindings.new.self.names w.last-in-Let.new.self.names g.opened
+          w.in_ok-last-in-Let.ensures.opened)
           (body_goes_on (RowLet bindings t) t (let_goes_on bindings t g.hides g.adds) (λ outer r. g.body outer r t)
-          (record { adds = l.adds; at = l.body }))
+          (record { adds = w.in_ok-last-in-Let.ensures.adds; at = w.in_ok-last-in-Let.ensures.body }))
       | goal.last-in-Call+in_ok-function-in-Call+in_ok-operands-in-Call w ↦
           let terms : RowTerms = row_terms_of w.in-Call.arguments in
           let p = w.in_ok-function-in-Call.ensures in
           let g = w.in_ok-operands-in-Call.ensures in
           ends (RowCall (row_term_of w.deref-in-Call.result.now) terms)
-          (ap row_term_of w.in-Call.is ∙ ap (λ x. RowCall (row_term_of x) terms) (sym w.deref-in-Call.ensures))
+          (boxed (λ x. RowCall x terms) (ap row_term_of w.in-Call.is) w.deref-in-Call.ensures)
           w.self-is w.waits-is w.last-is
           (opens w.gather.new.self.names
           (kept_then before.names w.place.new.self.names w.gather.new.self.names p.kept g.kept))
@@ -802,9 +807,8 @@ last-returns t c =
       | goal.last-in-Coerce+in_ok-operand-in-Coerce w ↦
           let p = w.in_ok-operand-in-Coerce.ensures in
           ends (RowCast (row_term_of w.deref-in-Coerce.result.now) w.in-Coerce.number)
-          (ap row_term_of w.in-Coerce.is ∙ ap (λ x. RowCast (row_term_of x) w.in-Coerce.number)
-          (sym w.deref-in-Coerce.ensures)) w.self-is w.waits-is w.last-is
-          (opens w.place-in-Coerce.new.self.names p.kept)
+          (boxed (λ x. RowCast x w.in-Coerce.number) (ap row_term_of w.in-Coerce.is) w.deref-in-Coerce.ensures)
+          w.self-is w.waits-is w.last-is (opens w.place-in-Coerce.new.self.names p.kept)
           (cast_ends
           (placed_by before w.place-in-Coerce.new.self v w.place-in-Coerce.new.waits w.deref-in-Coerce.result.now
           w.in_ok-operand-in-Coerce.operand refl p.adds p.placed) refl)
@@ -812,9 +816,8 @@ last-returns t c =
           let fits : SFits w64 w.in-Proj.k = search rules in
           let p = w.in_ok-operand-in-Proj.ensures in
           ends (RowProj (row_term_of w.deref-in-Proj.result.now) w.in-Proj.k)
-          (ap row_term_of w.in-Proj.is ∙ ap (λ x. RowProj (row_term_of x) w.in-Proj.k)
-          (sym w.deref-in-Proj.ensures)) w.self-is w.waits-is (simp to_z-of_z at w.last-is)
-          (opens w.place-in-Proj.new.self.names p.kept)
+          (boxed (λ x. RowProj x w.in-Proj.k) (ap row_term_of w.in-Proj.is) w.deref-in-Proj.ensures) w.self-is
+          w.waits-is (simp to_z-of_z at w.last-is) (opens w.place-in-Proj.new.self.names p.kept)
           (proj_ends
           (placed_by before w.place-in-Proj.new.self v w.place-in-Proj.new.waits w.deref-in-Proj.result.now
           w.in_ok-operand-in-Proj.operand refl p.adds p.placed) refl)
@@ -822,8 +825,8 @@ last-returns t c =
           let fits : SFits w64 w.in-ProjDyn.k = search rules in
           let p = w.in_ok-operand-in-ProjDyn.ensures in
           ends (RowProjDyn (row_term_of w.deref-in-ProjDyn.result.now) w.in-ProjDyn.k w.in-ProjDyn.label.0)
-          (ap row_term_of w.in-ProjDyn.is ∙ ap (λ x. RowProjDyn (row_term_of x) w.in-ProjDyn.k w.in-ProjDyn.label.0)
-          (sym w.deref-in-ProjDyn.ensures)) w.self-is w.waits-is (simp to_z-of_z at w.last-is)
+          (boxed (λ x. RowProjDyn x w.in-ProjDyn.k w.in-ProjDyn.label.0) (ap row_term_of w.in-ProjDyn.is)
+          w.deref-in-ProjDyn.ensures) w.self-is w.waits-is (simp to_z-of_z at w.last-is)
           (opens w.place-in-ProjDyn.new.self.names p.kept)
           (proj_dyn_ends
           (placed_by before w.place-in-ProjDyn.new.self v w.place-in-ProjDyn.new.waits w.deref-in-ProjDyn.result.now

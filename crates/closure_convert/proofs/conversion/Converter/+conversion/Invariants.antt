@@ -10,7 +10,7 @@ use Rattle.flat_ir.specs.declared.code.Operand.{Operand}
 use Rattle.flat_ir.specs.Bodies.{Body}
 use Rattle.closure_convert.specs.Conversion.{Scope, gather, gather_let, made_by, made_for, made_in}
 use Rattle.closure_convert.specs.Conversion.{procs_by, procs_for, procs_in, sequence}
-use Rattle.closure_convert.specs.Converting.{State, Adds, bodies, parts_of, seen, state}
+use Rattle.closure_convert.specs.Converting.{AddsRest, bodies, parts_of, seen}
 use Rattle.closure_convert.specs.Keeping.{Kept}
 use Rattle.closure_convert.specs.Scopes.{Reaches, known}
 use Rattle.closure_convert.specs.Waits.{ahead}
@@ -21,10 +21,8 @@ use Rattle.closure_convert.proofs.conversion.Converter.+conversion.Given as goal
 abbrev pub invariant-gather-loop-left : goal.invariant-gather-loop-left
 invariant-gather-loop-left l = record {
   kept : Kept l.fn.self.names l.self.names;
-  adds : (end : State) → Adds (known l.fn.self.names) (state l.self) end (free_names_of_all (row_terms_of l.left))
-      (procs_for (row_terms_of l.left)) (made_for (row_terms_of l.left))
-      → Adds (known l.fn.self.names) (state l.fn.self) end (free_names_of_all (row_terms_of l.terms))
-      (procs_for (row_terms_of l.terms)) (made_for (row_terms_of l.terms));
+  adds : AddsRest free_names_of_all procs_for made_for l.fn.self l.self (row_terms_of l.left)
+      (row_terms_of l.terms);
   gathered : (outer : Scope) → Reaches l.self.names.captured outer → (front : List Operand)
       (finish : List Operand → Body)
       → ahead l.waits.waits.items (gather (row_terms_of l.left) (seen l.fn.self outer) l.waits.depth
@@ -37,11 +35,8 @@ invariant-gather-loop-left l = record {
 abbrev pub invariant-gather_bindings-loop-left : goal.invariant-gather_bindings-loop-left
 invariant-gather_bindings-loop-left l = record {
   kept : Kept l.fn.self.names l.self.names;
-  adds : (end : State) → Adds (known l.fn.self.names) (state l.self) end
-      (free_names_of_bindings (row_bindings_of l.left)) (procs_by (row_bindings_of l.left))
-      (made_by (row_bindings_of l.left))
-      → Adds (known l.fn.self.names) (state l.fn.self) end (free_names_of_bindings (row_bindings_of l.bindings))
-      (procs_by (row_bindings_of l.bindings)) (made_by (row_bindings_of l.bindings));
+  adds : AddsRest free_names_of_bindings procs_by made_by l.fn.self l.self (row_bindings_of l.left)
+      (row_bindings_of l.bindings);
   gathered : (outer : Scope) → Reaches l.self.names.captured outer → (finish : List Operand → ℕ → Body)
       → ahead l.waits.waits.items (gather_let (row_bindings_of l.left) (seen l.fn.self outer) l.waits.depth
       (length l.self.procs) l.operands finish)
@@ -56,10 +51,8 @@ invariant-gather_bindings-loop-left l = record {
 abbrev pub invariant-sequence-loop-left : goal.invariant-sequence-loop-left
 invariant-sequence-loop-left l = record {
   kept : Kept l.fn.self.names l.self.names;
-  adds : (end : State) → Adds (known l.fn.self.names) (state l.self) end (free_names_of_all (row_terms_of l.left))
-      (procs_for (row_terms_of l.left)) (made_for (row_terms_of l.left))
-      → Adds (known l.fn.self.names) (state l.fn.self) end (free_names_of_all (row_terms_of l.terms))
-      (procs_for (row_terms_of l.terms)) (made_for (row_terms_of l.terms));
+  adds : AddsRest free_names_of_all procs_for made_for l.fn.self l.self (row_terms_of l.left)
+      (row_terms_of l.terms);
   body : (outer : Scope) → Reaches l.self.names.captured outer
       → ahead l.waits.waits.items (sequence (row_terms_of l.left) (seen l.fn.self outer) l.waits.depth
       (length l.self.procs))
@@ -71,11 +64,8 @@ invariant-sequence-loop-left l = record {
 abbrev pub invariant-functions-loop-left : goal.invariant-functions-loop-left
 invariant-functions-loop-left l = record {
   kept : Kept l.fn.self.names l.self.names;
-  adds : (end : State) → Adds (known l.fn.self.names) (state l.self) end
-      (free_names_of_members (row_members_of l.left)) (procs_in (row_members_of l.left))
-      (made_in (row_members_of l.left))
-      → Adds (known l.fn.self.names) (state l.fn.self) end (free_names_of_members (row_members_of l.members))
-      (procs_in (row_members_of l.members)) (made_in (row_members_of l.members));
+  adds : AddsRest free_names_of_members procs_in made_in l.fn.self l.self (row_members_of l.left)
+      (row_members_of l.members);
   count : length l.functions.items + row_member_count (row_members_of l.left)
       ≡ row_member_count (row_members_of l.members);
   bodies : (outer : Scope) → Reaches l.self.names.captured outer

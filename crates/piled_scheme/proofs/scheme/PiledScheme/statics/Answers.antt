@@ -1,4 +1,4 @@
-use Rattle.std.proofs.Common.{◌≡◌, refl, sym, [], length, ap, ◌∙◌, append-nil}
+use Rattle.std.proofs.Common.{refl, sym, [], length, ap, ◌∙◌, append-nil}
 use Rattle.std.proofs.lemmas.List.{length-map}
 use Rattle.coercion_norm.specs.CastRows.{row_cast, row_casts}
 use Rattle.coercion_norm.specs.Objects.{words_of_all}

@@ -1,7 +1,7 @@
 use Rattle.std.proofs.Common.{◌≡◌, take}
 use Rattle.type_graph.specs.Rows.{places_of}
-use Rattle.consistency.specs.Known.{firsts, seconds}
-use Rattle.consistency.proofs.blends.zip.Given as goal
+use Rattle.consistency.specs.Pairs.{firsts, seconds}
+use Rattle.consistency.proofs.pairs.zip.Given as goal
 
 abbrev pub invariant-loop-i : goal.invariant-loop-i
 invariant-loop-i l = record {
