@@ -2,6 +2,7 @@
 
 ghost use Rattle.std.specs.Prelude.{◌≡◌, ◌++◌, ◌∷◌, [], ◌≤◌, ◌<◌, ◌^◌, true, pos, OnOk};
 ghost use Rattle.rv_isa.specs.declared.inst.Inst.TheVariants.{Jalr, Addi, Slli};
+ghost use Rattle.rv_machine.specs.Branches.{branch_when};
 ghost use Rattle.assembler.specs.Expansion.{offset, opposite, chunk_of, far_insts, near_address_insts, near_item_insts};
 ghost use Rattle.assembler.specs.Expansion.{far_item_insts, insts_of};
 ghost use Rattle.assembler.specs.Imaging.{inst_words};
@@ -51,18 +52,26 @@ fn put_near(
     ensures decode { OnOk result (AllDecode (near_item_insts here target item.now)) }
 {
     match item {
-        RealItem::Op(i) => put_all(words, &[*i]),
+        RealItem::Op(i) => put_one(words, *i),
         RealItem::Mark(_) => Ok(()),
-        RealItem::Jump(rd, _) => {
-            let offset = Imm21::new(offset(here, target));
-            put_all(words, &[Inst::Jal(*rd, offset)])
-        }
+        RealItem::Jump(rd, _) => put_one(words, Inst::Jal(*rd, Imm21::new(offset(here, target)))),
         RealItem::Branch(cond, rs1, rs2, _) => {
-            let offset = Imm13::new(offset(here, target));
-            put_all(words, &[branch(*cond, *rs1, *rs2, offset)])
+            put_one(
+                words,
+                branch(*cond, *rs1, *rs2, Imm13::new(offset(here, target))),
+            )
         }
-        RealItem::Address(rd, _) => put_all(words, &near_address(*rd, target)),
+        RealItem::Address(rd, _) => put_near_address(words, *rd, target),
     }
+}
+
+// Adds the words that put an address below 2,147,483,648 that is even into a register.
+fn put_near_address(words: &mut CodeWords, rd: Reg, target: u64) -> Result<(), OutOfMemory>
+    requires { target < 2147483648 }
+    ensures words { OnOk result (words.new ≡ words.old ++ inst_words (near_address_insts rd target)) }
+    ensures decode { OnOk result (AllDecode (near_address_insts rd target)) }
+{
+    put_all(words, &near_address(rd, target))
 }
 
 // Adds the words of an item's far form.
@@ -71,21 +80,31 @@ fn put_far(words: &mut CodeWords, target: u64, item: &RealItem) -> Result<(), Ou
     ensures decode { OnOk result (AllDecode (far_item_insts target item.now)) }
 {
     match item {
-        RealItem::Op(i) => put_all(words, &[*i]),
+        RealItem::Op(i) => put_one(words, *i),
         RealItem::Mark(_) => Ok(()),
         RealItem::Jump(rd, _) => put_far_jump(words, *rd, target),
-        RealItem::Branch(cond, rs1, rs2, _) => {
-            put_all(
-                words,
-                &[branch(opposite(*cond), *rs1, *rs2, Imm13::new(44))],
-            )?;
-            put_far_jump(words, Reg::new(0), target)
-        }
-        RealItem::Address(rd, _) => {
-            put_all(words, &far_address(target))?;
-            put_all(words, &[Inst::Addi(*rd, scratch(), Imm12::new(0))])
-        }
+        RealItem::Branch(cond, rs1, rs2, _) => put_far_branch(words, *cond, (*rs1, *rs2), target),
+        RealItem::Address(rd, _) => put_far_address(words, *rd, target),
     }
+}
+
+// Adds the words of a branch to any address.
+fn put_far_branch(
+    words: &mut CodeWords,
+    cond: Cond,
+    operands: (Reg, Reg),
+    target: u64,
+) -> Result<(), OutOfMemory>
+    ensures words { OnOk result (words.new ≡ words.old ++ inst_words (branch_when (opposite cond) operands.0 operands.1
+        (pos 44) ∷ far_insts target ++ Jalr 0 31 (pos 0) ∷ [])) }
+    ensures decode { OnOk result (AllDecode (branch_when (opposite cond) operands.0 operands.1 (pos 44)
+        ∷ far_insts target ++ Jalr 0 31 (pos 0) ∷ [])) }
+{
+    put_one(
+        words,
+        branch(opposite(cond), operands.0, operands.1, Imm13::new(44)),
+    )?;
+    put_far_jump(words, Reg::new(0), target)
 }
 
 // Adds the words of a jump to any address.
@@ -93,8 +112,34 @@ fn put_far_jump(words: &mut CodeWords, rd: Reg, target: u64) -> Result<(), OutOf
     ensures words { OnOk result (words.new ≡ words.old ++ inst_words (far_insts target ++ Jalr rd 31 (pos 0) ∷ [])) }
     ensures decode { OnOk result (AllDecode (far_insts target ++ Jalr rd 31 (pos 0) ∷ [])) }
 {
-    put_all(words, &far_address(target))?;
-    put_all(words, &[Inst::Jalr(rd, scratch(), Imm12::new(0))])
+    put_scratch(words, target)?;
+    put_one(words, Inst::Jalr(rd, scratch(), Imm12::new(0)))
+}
+
+// Adds the words that put any address into a register.
+fn put_far_address(words: &mut CodeWords, rd: Reg, target: u64) -> Result<(), OutOfMemory>
+    ensures words { OnOk result (words.new ≡ words.old ++ inst_words (far_insts target ++ Addi rd 31 (pos 0) ∷ [])) }
+    ensures decode { OnOk result (AllDecode (far_insts target ++ Addi rd 31 (pos 0) ∷ [])) }
+{
+    put_scratch(words, target)?;
+    put_one(words, Inst::Addi(rd, scratch(), Imm12::new(0)))
+}
+
+// Adds the words that put any word into the scratch register.
+fn put_scratch(words: &mut CodeWords, word: u64) -> Result<(), OutOfMemory>
+    ensures words { OnOk result (words.new ≡ words.old ++ inst_words (far_insts word)) }
+    ensures decode { OnOk result (AllDecode (far_insts word)) }
+{
+    put_all(words, &far_address(word))
+}
+
+// Adds the word of an instruction.
+fn put_one(words: &mut CodeWords, i: Inst) -> Result<(), OutOfMemory>
+    ensures words { OnOk result (words.new ≡ words.old ++ inst_words (i ∷ [])) }
+    ensures decode { OnOk result (AllDecode (i ∷ [])) }
+{
+    words.push(encode(i))?;
+    Ok(())
 }
 
 // Adds the words of instructions.

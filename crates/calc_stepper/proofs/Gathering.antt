@@ -1,5 +1,13 @@
 -- What loops keep that go along a list and gather what they make of it.
 use Rattle.std.proofs.Common.{◌≡◌, ◌≤◌, ◌∙◌, ◌++◌, ◌∷◌, [], ℕ, List, ap, ap₂, append_assoc}
+use Rattle.std.proofs.Common.{Result}
+use Rattle.std.specs.Global.{Box}
+use Rattle.std.specs.Prelude.{IfOk}
+use Rattle.std.proofs.lemmas.Result.{IfOk-weaker}
+use Rattle.grift_base.specs.declared.lists.OutOfMemory.{OutOfMemory}
+use Rattle.core_calc.specs.Terms.{Term}
+use Rattle.core_calc.specs.Views.{term_of}
+use Rattle.core_calc.specs.declared.terms.Core.{Core}
 use Rattle.calc_stepper.specs.Holes.{Holes}
 
 -- what is left, with what is done in front of it, is the whole, and is no larger
@@ -17,6 +25,12 @@ Filling onto filled behind view size done left all holes first = record {
   rest : behind (view left) holes ≡ behind (view all) first;
   smaller : size left ≤ size all;
 }
+
+-- a term that was made and put into a box
+pub term_boxed : (r : Result (Box Core) OutOfMemory) (made : Core) (term : Term) → IfOk r (λ b. b.value ≡ made) →
+    term_of made ≡ term → IfOk r (λ b. term_of b.value ≡ term)
+term_boxed r made term e same =
+    IfOk-weaker r (λ b. b.value ≡ made) (λ b. term_of b.value ≡ term) (λ b h. ap term_of h ∙ same) e
 
 -- a name more, and what is left behind it
 pub name_pushed : (done pushed others left whole : List ℕ) (given name : ℕ) → pushed ≡ done ++ given ∷ [] →

@@ -69,14 +69,13 @@ pub operator_taken : (types : TypeRows) (store : Store) (world : WorldState) (te
     LeadsTo (with_some found (operator_step types store world operator)) store world turn next next_world →
     turn ≡ given →
     after (prim_redex types store world term) term store world
-    ≡ turn_after given (Prim operator operands) next next_world
+    ≡ turn_after given term next next_world
 operator_taken types store world term operator operands found turn given next next_world is e h same =
     ap (λ (t : Term). after (prim_redex types store world t) term store world) is
     ∙ ap (λ (o : Outcome Term). after o term store world)
     (few_operands types store world operator (all_values operands))
     ∙ ap (λ (values : Option (List Value)). after (with_some values (operator_step types store world operator)) term
     store world) (sym e) ∙ h term ∙ ap (λ (t : Turn). turn_after t term next next_world) same
-    ∙ ap (λ (t : Term). turn_after given t next next_world) is
 
 -- a write of a value through a wrapper goes on with the same write behind it, of the value in a cast
 module _ (types : TypeRows) (store : Store) (world : WorldState) (rest : Terms → Term) (v : Value) (label : ℕ) where

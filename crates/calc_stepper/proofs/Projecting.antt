@@ -36,6 +36,14 @@ one_part : (part : TypeRow → Option ℕ) (o : Option TypeRow) (go : ℕ → Ou
 one_part part (Some row) go other inner e = ap (λ x. if_some x go other) e
 one_part part None go other inner e = absurd (none_is_not_some inner e)
 
+-- what a projection is of, seen twice
+pub same_projected : (whole a b : Term) (k l : ℤ) → whole ≡ Proj a k → whole ≡ Proj b l → a ≡ b
+same_projected whole a b k l e f = let same = sym e ∙ f in cc
+
+pub same_projected_dyn : (whole a b : Term) (k l : ℤ) (m n : ℕ) → whole ≡ ProjDyn a k m → whole ≡ ProjDyn b l n →
+    a ≡ b
+same_projected_dyn whole a b k l m n e f = let same = sym e ∙ f in cc
+
 module _ (types : TypeRows) (store : Store) (world : WorldState) where
   -- a projection of what is seen through a cast goes on with the part of what is in the cast
   pub projected_becomes : (whole term held next : Term) (k asked : ℤ) (from label to inner outer : ℕ) →

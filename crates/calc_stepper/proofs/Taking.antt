@@ -86,6 +86,11 @@ let_taken types store world bindings body e =
     ∙ ap (λ o. with_some o (λ b. Goes (substitute body b) store world)) h.2
     ∙ ap (λ b. Goes (substitute body b) store world) (sym (append-nil (taken_bindings bindings)))
 
+-- what is bound and what it is put into, seen one after the other
+pub let_seen : (whole : Term) (bound others : Bindings) (left body : Term) → whole ≡ Let bound left →
+    whole ≡ Let others body → whole ≡ Let bound body
+let_seen whole bound others left body e f = let same = sym e ∙ f in cc
+
 -- so a Let whose bound values are put into its body goes on with it
 pub let_becomes : (types : TypeRows) (store : Store) (world : WorldState) (whole : Term) (bindings : Bindings)
     (body next : Term) (entries : Substitution) → whole ≡ Let bindings body → is_some (bound_values bindings) ≡ true →

@@ -2,6 +2,7 @@
 // memory runs out.
 
 ghost use Rattle.std.specs.Prelude.{◌≡◌, IfNone, IfOk, None, OnErr, Some, false, if◌then◌else◌, option_map};
+ghost use Rattle.std.specs.Global.{Box};
 ghost use Rattle.grift_base.specs.Types.{row_at};
 ghost use Rattle.type_graph.specs.Rows.{places_of};
 ghost use Rattle.core_calc.specs.Terms.{Cast, as_value};
@@ -15,7 +16,7 @@ ghost use Rattle.calc_stepper.specs.Taken.{as_many, casts, taken_arguments, take
 
 use crate::copies::{copy_as_value, copy_term};
 use crate::forms::{Wrapper, are_bound, are_values, row, unwrap_value, wrapper_of};
-use crate::lists::{term_then, terms_onto};
+use crate::lists::{boxed_then, terms_onto};
 use crate::moves::Moved;
 use crate::substitution::{Entry, push_entry, substitute};
 use core_calc::terms::{Core, CoreBindings, CoreList, GroupMembers, Value, VarId};
@@ -32,13 +33,13 @@ pub fn call_redex(alloc: Global, term: &mut Core) -> Result<Moved, OutOfMemory>
     ensures moves { IfOk result (MovesBy call_redex (term_of term.old) (term_of term.new)) }
     ensures stays { OnErr result (term_of term.new ≡ term_of term.old) }
 {
+    let place = boxed(alloc, Core::Unit)?;
     let Core::Call(function, arguments) = term else {
         return Ok(Moved::Stuck);
     };
-    let mut place = boxed(alloc, Core::Unit)?;
-    *place = mem::replace(&mut **function, Core::Unit);
+    let function = mem::replace(function, place);
     let arguments = mem::replace(arguments, CoreList::Nil);
-    *term = Core::Enter(place, arguments);
+    *term = Core::Enter(function, arguments);
     Ok(Moved::Goes)
 }
 
@@ -77,7 +78,7 @@ pub fn let_redex(alloc: Global, term: &mut Core) -> Result<Moved, OutOfMemory>
     ensures moves { IfOk result (MovesBy let_redex (term_of term.old) (term_of term.new)) }
     ensures stays { OnErr result (term_of term.new ≡ term_of term.old) }
 {
-    let Core::Let(bindings, body) = term else {
+    let Core::Let(bindings, _) = &*term else {
         return Ok(Moved::Stuck);
     };
     if !are_bound(bindings) {
@@ -85,6 +86,9 @@ pub fn let_redex(alloc: Global, term: &mut Core) -> Result<Moved, OutOfMemory>
     }
     let entries = bound_entries(alloc, bindings)?;
     let none = GroupMembers::Nil;
+    let Core::Let(_, body) = term else {
+        return Ok(Moved::Stuck);
+    };
     substitute(alloc, body, entries.as_slice(), &none)?;
     let body = mem::replace(&mut **body, Core::Unit);
     *term = body;
@@ -163,8 +167,8 @@ fn copy_entered(
     body: &Core,
     arguments: &CoreList,
     members: &GroupMembers,
-) -> Result<Option<Core>, OutOfMemory>
-    ensures { IfOk result (λ o. option_map term_of o
+) -> Result<Option<Box<Core>>, OutOfMemory>
+    ensures { IfOk result (λ o. option_map (λ b. term_of b.value) o
         ≡ with_arguments (names_of params.now) (term_of body.now) (group_values (members_of members.now))
         (terms_of arguments.now)) }
 {
@@ -182,11 +186,11 @@ fn copy_in_cast(
     from: TypeId,
     to: TypeId,
     label: LabelId,
-) -> Result<Core, OutOfMemory>
-    ensures { IfOk result (λ made. term_of made ≡ Cast (term_of term.now) from.0 to.0 label.0) }
+) -> Result<Box<Core>, OutOfMemory>
+    ensures { IfOk result (λ made. term_of made.value ≡ Cast (term_of term.now) from.0 to.0 label.0) }
 {
-    let below = boxed(alloc, copy_term(alloc, term)?)?;
-    Ok(Core::Cast(below, from, to, label))
+    let below = copy_term(alloc, term)?;
+    boxed(alloc, Core::Cast(below, from, to, label))
 }
 
 // Copies of arguments, each in a cast from one type to the other, as far as there are types.
@@ -212,7 +216,7 @@ fn cast_arguments(
             return Ok(terms_onto(done, CoreList::Nil));
         };
         let made = copy_in_cast(alloc, first, *from, *to, label)?;
-        done = term_then(alloc, made, done)?;
+        done = boxed_then(alloc, made, done)?;
         froms = other_froms;
         tos = other_tos;
         left = rest;
@@ -257,33 +261,32 @@ fn entered(
     alloc: Global,
     function: &mut Core,
     arguments: &CoreList,
-) -> Result<Option<Core>, OutOfMemory>
-    ensures body { IfOk result (λ o. option_map term_of o
+) -> Result<Option<Box<Core>>, OutOfMemory>
+    ensures body { IfOk result (λ o. option_map (λ b. term_of b.value) o
         ≡ entered (as_value (term_of function.old)) (terms_of arguments.now)) }
     ensures same { IfOk result (λ o. IfNone o (term_of function.new ≡ term_of function.old)) }
     ensures stays { OnErr result (term_of function.new ≡ term_of function.old) }
 {
+    if let Core::Value(Value::GroupMember(members, place)) = &*function {
+        let Some(member) = members.get(*place as u64) else {
+            return Ok(None);
+        };
+        let params = member.params.as_slice();
+        let body = copy_entered(alloc, params, &member.body, arguments, members)?;
+        return Ok(body);
+    }
+    let place = boxed(alloc, Core::Unit)?;
     let Core::Value(v) = function else {
         return Ok(None);
     };
-    match v {
-        Value::Fun(params, body, _) => {
-            let none = GroupMembers::Nil;
-            if !put_arguments(alloc, params.as_slice(), body, arguments, &none)? {
-                return Ok(None);
-            }
-            Ok(Some(mem::replace(&mut **body, Core::Unit)))
-        }
-        Value::GroupMember(members, place) => {
-            let Some(member) = members.get(*place as u64) else {
-                return Ok(None);
-            };
-            let params = member.params.as_slice();
-            let body = copy_entered(alloc, params, &member.body, arguments, members)?;
-            Ok(body)
-        }
-        _ => Ok(None),
+    let Value::Fun(params, body, _) = v else {
+        return Ok(None);
+    };
+    let none = GroupMembers::Nil;
+    if !put_arguments(alloc, params.as_slice(), body, arguments, &none)? {
+        return Ok(None);
     }
+    Ok(Some(mem::replace(body, place)))
 }
 
 /// Enters a function: one that is seen through a cast with its arguments in casts, and any other with values in the
@@ -313,7 +316,7 @@ pub fn enter_redex(alloc: Global, types: &TypeTable, term: &mut Core) -> Result<
     }
     match entered(alloc, function, arguments)? {
         Some(body) => {
-            *term = body;
+            *term = Box::into_inner(body);
             Ok(Moved::Goes)
         }
         None => Ok(Moved::Stuck),

@@ -39,26 +39,33 @@ pub fn cast_redex(alloc: Global, types: &TypeTable, term: &mut Core) -> Result<M
     ensures moves { IfOk result (Moves (cast_redex types.now) (term_of term.old) (term_of term.new)) }
     ensures stays { OnErr result (term_of term.new ≡ term_of term.old) }
 {
-    let Core::Cast(inner, from, to, label) = term else {
+    let Core::Cast(inner, from, to, label) = &*term else {
         return Ok(Moved::Stuck);
     };
     if !is_value(inner) {
         return Ok(Moved::Stuck);
     }
-    let Some(first) = row(types, *from) else {
+    let (from, to, label) = (*from, *to, *label);
+    let Some(first) = row(types, from) else {
         return Ok(Moved::Stuck);
     };
-    let Some(second) = row(types, *to) else {
+    let Some(second) = row(types, to) else {
         return Ok(Moved::Stuck);
     };
     if is_dyn(second) && !is_dyn(first) {
+        let Core::Cast(inner, _, _, _) = term else {
+            return Ok(Moved::Stuck);
+        };
         let Some(v) = take_boxed(alloc, inner)? else {
             return Ok(Moved::Stuck);
         };
-        *term = Core::Value(Value::Inject(v, *from));
+        *term = Core::Value(Value::Inject(v, from));
         return Ok(Moved::Goes);
     }
     if is_dyn(first) && !is_dyn(second) {
+        let Core::Cast(inner, from, _, _) = term else {
+            return Ok(Moved::Stuck);
+        };
         let Some((held, kept)) = take_injected(inner) else {
             return Ok(Moved::Stuck);
         };
@@ -67,8 +74,11 @@ pub fn cast_redex(alloc: Global, types: &TypeTable, term: &mut Core) -> Result<M
         return Ok(Moved::Goes);
     }
     if !same_head(first, second) {
-        return Ok(Moved::Blames(*label));
+        return Ok(Moved::Blames(label));
     }
+    let Core::Cast(inner, _, _, _) = term else {
+        return Ok(Moved::Stuck);
+    };
     if is_dyn(first) || is_base(first) {
         let Some(v) = take_value(inner) else {
             return Ok(Moved::Stuck);
@@ -79,7 +89,7 @@ pub fn cast_redex(alloc: Global, types: &TypeTable, term: &mut Core) -> Result<M
     let Some(v) = take_boxed(alloc, inner)? else {
         return Ok(Moved::Stuck);
     };
-    *term = Core::Value(Value::Wrap(v, *from, *label, *to));
+    *term = Core::Value(Value::Wrap(v, from, label, to));
     Ok(Moved::Goes)
 }
 
@@ -111,7 +121,7 @@ pub fn proj_redex(alloc: Global, types: &TypeTable, term: &mut Core) -> Result<M
     let Some(k) = part_asked(term) else {
         return Ok(Moved::Stuck);
     };
-    let Core::Proj(inner, _) = term else {
+    let Core::Proj(inner, _) = &*term else {
         return Ok(Moved::Stuck);
     };
     if let Core::Value(Value::Tuple(parts)) = &**inner {
@@ -135,6 +145,9 @@ pub fn proj_redex(alloc: Global, types: &TypeTable, term: &mut Core) -> Result<M
         return Ok(Moved::Stuck);
     };
     let mut place = boxed(alloc, Core::Unit)?;
+    let Core::Proj(inner, _) = term else {
+        return Ok(Moved::Stuck);
+    };
     if !unwrap_value(inner) {
         return Ok(Moved::Stuck);
     }
@@ -155,7 +168,7 @@ pub fn proj_dyn_redex(
     let Some((k, label)) = dyn_part_asked(term) else {
         return Ok(Moved::Stuck);
     };
-    let Core::ProjDyn(inner, _, _) = term else {
+    let Core::ProjDyn(inner, _, _) = &*term else {
         return Ok(Moved::Stuck);
     };
     let Core::Value(Value::Inject(_, kept)) = &**inner else {
@@ -172,6 +185,9 @@ pub fn proj_dyn_redex(
         return Ok(Moved::Stuck);
     };
     let (mut place, mut below) = both_boxed(alloc, Core::Unit, Core::Unit)?;
+    let Core::ProjDyn(inner, _, _) = term else {
+        return Ok(Moved::Stuck);
+    };
     let Some((held, _)) = take_injected(inner) else {
         return Ok(Moved::Stuck);
     };

@@ -1,11 +1,12 @@
 // Copies of values and terms.
 
 ghost use Rattle.std.specs.Prelude.{◌≡◌, IfOk, option_map};
+ghost use Rattle.std.specs.Global.{Box};
 ghost use Rattle.core_calc.specs.Terms.{as_value};
 ghost use Rattle.core_calc.specs.Views.{bindings_of, members_of, term_of, terms_of, value_of, values_of};
 
 use crate::lists::{
-    binding_then, bindings_onto, member_then, members_onto, term_then, terms_onto, value_then,
+    binding_then, bindings_onto, boxed_then, member_then, members_onto, terms_onto, value_then,
     values_onto,
 };
 use core_calc::terms::{
@@ -22,17 +23,8 @@ pub fn copy_names(alloc: Global, names: &VarIds) -> Result<VarIds, OutOfMemory>
     Ok(VarIds::from_slice(alloc, names.as_slice())?)
 }
 
-// Boxes are made, and forms of several parts copied, in functions of their own: what a proof costs goes by the calls of
-// a function times its exits.
-
-// A copy of a term, in a box.
-#[cycle(copies)]
-fn copy_in_box(alloc: Global, core: &Core) -> Result<Box<Core>, OutOfMemory>
-    ensures { IfOk result (λ copy. term_of copy.value ≡ term_of core.now) }
-{
-    let copy = copy_term(alloc, core)?;
-    boxed(alloc, copy)
-}
+// Forms of several parts are copied in a function of their own: what a proof costs goes by the calls of a function times
+// its exits. Copies of terms are answered in boxes, since each step that holds a term by value shows all its forms.
 
 // A copy of a value, in a box.
 #[cycle(copies)]
@@ -53,41 +45,41 @@ fn copy_function(
     ensures { IfOk result (λ copy. (copy.0 ≡ params.now) × (term_of copy.1.value ≡ term_of body.now)) }
 {
     let params = copy_names(alloc, params)?;
-    let body = copy_in_box(alloc, body)?;
+    let body = copy_term(alloc, body)?;
     Ok((params, body))
 }
 
 // The same term again, of a form that joins several parts; no other form comes here.
 #[cycle(copies)]
-fn copy_joined(alloc: Global, core: &Core) -> Result<Core, OutOfMemory>
-    ensures { IfOk result (λ copy. term_of copy ≡ term_of core.now) }
+fn copy_joined(alloc: Global, core: &Core) -> Result<Box<Core>, OutOfMemory>
+    ensures { IfOk result (λ copy. term_of copy.value ≡ term_of core.now) }
 {
     match core {
         Core::Group(members, body) => {
             let members = copy_members(alloc, members)?;
-            let body = copy_in_box(alloc, body)?;
-            Ok(Core::Group(members, body))
+            let body = copy_term(alloc, body)?;
+            boxed(alloc, Core::Group(members, body))
         }
         Core::Let(bindings, body) => {
             let bindings = copy_bindings(alloc, bindings)?;
-            let body = copy_in_box(alloc, body)?;
-            Ok(Core::Let(bindings, body))
+            let body = copy_term(alloc, body)?;
+            boxed(alloc, Core::Let(bindings, body))
         }
         Core::Call(function, arguments) => {
-            let function = copy_in_box(alloc, function)?;
+            let function = copy_term(alloc, function)?;
             let arguments = copy_terms(alloc, arguments)?;
-            Ok(Core::Call(function, arguments))
+            boxed(alloc, Core::Call(function, arguments))
         }
         Core::Enter(function, arguments) => {
-            let function = copy_in_box(alloc, function)?;
+            let function = copy_term(alloc, function)?;
             let arguments = copy_terms(alloc, arguments)?;
-            Ok(Core::Enter(function, arguments))
+            boxed(alloc, Core::Enter(function, arguments))
         }
         Core::If(condition, on_true, on_false) => {
-            let condition = copy_in_box(alloc, condition)?;
-            let on_true = copy_in_box(alloc, on_true)?;
-            let on_false = copy_in_box(alloc, on_false)?;
-            Ok(Core::If(condition, on_true, on_false))
+            let condition = copy_term(alloc, condition)?;
+            let on_true = copy_term(alloc, on_true)?;
+            let on_false = copy_term(alloc, on_false)?;
+            boxed(alloc, Core::If(condition, on_true, on_false))
         }
         _ => Err(OutOfMemory),
     }
@@ -128,37 +120,49 @@ pub fn copy_value(alloc: Global, v: &Value) -> Result<Value, OutOfMemory>
 
 /// The same term again.
 #[cycle(copies)]
-pub fn copy_term(alloc: Global, core: &Core) -> Result<Core, OutOfMemory>
-    ensures { IfOk result (λ copy. term_of copy ≡ term_of core.now) }
+pub fn copy_term(alloc: Global, core: &Core) -> Result<Box<Core>, OutOfMemory>
+    ensures { IfOk result (λ copy. term_of copy.value ≡ term_of core.now) }
 {
     match core {
-        Core::Int(n) => Ok(Core::Int(*n)),
-        Core::Bool(b) => Ok(Core::Bool(*b)),
-        Core::Unit => Ok(Core::Unit),
-        Core::Var(name) => Ok(Core::Var(*name)),
+        Core::Int(n) => boxed(alloc, Core::Int(*n)),
+        Core::Bool(b) => boxed(alloc, Core::Bool(*b)),
+        Core::Unit => boxed(alloc, Core::Unit),
+        Core::Var(name) => boxed(alloc, Core::Var(*name)),
         Core::Lambda(params, body, ty) => {
             let (params, body) = copy_function(alloc, params, body)?;
-            Ok(Core::Lambda(params, body, *ty))
+            boxed(alloc, Core::Lambda(params, body, *ty))
         }
         Core::Group(..) | Core::Let(..) | Core::Call(..) | Core::Enter(..) | Core::If(..) => {
             copy_joined(alloc, core)
         }
-        Core::Seq(terms) => Ok(Core::Seq(copy_terms(alloc, terms)?)),
+        Core::Seq(terms) => {
+            let terms = copy_terms(alloc, terms)?;
+            boxed(alloc, Core::Seq(terms))
+        }
         Core::Cast(term, from, to, label) => {
-            let term = copy_in_box(alloc, term)?;
-            Ok(Core::Cast(term, *from, *to, *label))
+            let term = copy_term(alloc, term)?;
+            boxed(alloc, Core::Cast(term, *from, *to, *label))
         }
-        Core::Proj(term, k) => Ok(Core::Proj(copy_in_box(alloc, term)?, *k)),
+        Core::Proj(term, k) => {
+            let term = copy_term(alloc, term)?;
+            boxed(alloc, Core::Proj(term, *k))
+        }
         Core::ProjDyn(term, k, label) => {
-            let term = copy_in_box(alloc, term)?;
-            Ok(Core::ProjDyn(term, *k, *label))
+            let term = copy_term(alloc, term)?;
+            boxed(alloc, Core::ProjDyn(term, *k, *label))
         }
-        Core::Tuple(parts) => Ok(Core::Tuple(copy_terms(alloc, parts)?)),
+        Core::Tuple(parts) => {
+            let parts = copy_terms(alloc, parts)?;
+            boxed(alloc, Core::Tuple(parts))
+        }
         Core::Prim(operator, operands) => {
             let operands = copy_terms(alloc, operands)?;
-            Ok(Core::Prim(*operator, operands))
+            boxed(alloc, Core::Prim(*operator, operands))
         }
-        Core::Value(v) => Ok(Core::Value(copy_value(alloc, v)?)),
+        Core::Value(v) => {
+            let v = copy_value(alloc, v)?;
+            boxed(alloc, Core::Value(v))
+        }
     }
 }
 
@@ -171,7 +175,7 @@ pub fn copy_terms(alloc: Global, terms: &CoreList) -> Result<CoreList, OutOfMemo
     let mut left = terms;
     while let CoreList::Cons(first, rest) = left {
         let term = copy_term(alloc, first)?;
-        done = term_then(alloc, term, done)?;
+        done = boxed_then(alloc, term, done)?;
         left = rest;
     }
     Ok(terms_onto(done, CoreList::Nil))
@@ -190,7 +194,7 @@ pub fn copy_members(alloc: Global, members: &GroupMembers) -> Result<GroupMember
         let member = GroupMember {
             name: first.name,
             params,
-            body,
+            body: Box::into_inner(body),
             ty: first.ty,
         };
         done = member_then(alloc, member, done)?;
@@ -210,7 +214,7 @@ pub fn copy_bindings(alloc: Global, bindings: &CoreBindings) -> Result<CoreBindi
         let value = copy_term(alloc, &first.value)?;
         let binding = CoreBinding {
             name: first.name,
-            value,
+            value: Box::into_inner(value),
         };
         done = binding_then(alloc, binding, done)?;
         left = rest;

@@ -665,7 +665,7 @@ pub fn prim_redex(
     ensures stays { OnErr result ((term_of term.new ≡ term_of term.old) × (store_of store.new ≡ store_of store.old)
         × (world.new ≡ world.old)) }
 {
-    let Core::Prim(operator, operands) = term else {
+    let Core::Prim(operator, operands) = &*term else {
         return Ok(Moved::Stuck);
     };
     let operator = *operator;

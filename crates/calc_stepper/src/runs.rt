@@ -68,7 +68,7 @@ pub fn start(alloc: Global, core: &Core, input: Bytes) -> Result<CalcState, OutO
     let term = copy_term(alloc, core)?;
     let ended = answered(&term);
     Ok(CalcState {
-        term,
+        term: Box::into_inner(term),
         store: Cells::new(alloc),
         world: World::new(alloc, input),
         ended,

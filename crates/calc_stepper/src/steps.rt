@@ -31,14 +31,14 @@ fn lambda_redex(alloc: Global, term: &mut Core) -> Result<Moved, OutOfMemory>
     ensures moves { IfOk result (MovesBy lambda_redex (term_of term.old) (term_of term.new)) }
     ensures stays { OnErr result (term_of term.new ≡ term_of term.old) }
 {
+    let place = boxed(alloc, Core::Unit)?;
     let Core::Lambda(params, body, ty) = term else {
         return Ok(Moved::Stuck);
     };
-    let mut place = boxed(alloc, Core::Unit)?;
     let ty = *ty;
     let params = mem::replace(params, VarIds::new(alloc));
-    *place = mem::replace(&mut **body, Core::Unit);
-    *term = Core::Value(Value::Fun(params, place, ty));
+    let body = mem::replace(body, place);
+    *term = Core::Value(Value::Fun(params, body, ty));
     Ok(Moved::Goes)
 }
 
@@ -46,23 +46,23 @@ fn lambda_redex(alloc: Global, term: &mut Core) -> Result<Moved, OutOfMemory>
 fn if_redex(term: &mut Core) -> Moved
     ensures { MovesBy if_redex (term_of term.old) (term_of term.new) result }
 {
-    let Core::If(condition, on_true, on_false) = term else {
+    let Core::If(condition, _, _) = &*term else {
         return Moved::Stuck;
     };
-    match &**condition {
-        Core::Bool(b) | Core::Value(Value::Bool(b)) => {
-            if *b {
-                let next = mem::replace(&mut **on_true, Core::Unit);
-                *term = next;
-                Moved::Goes
-            } else {
-                let next = mem::replace(&mut **on_false, Core::Unit);
-                *term = next;
-                Moved::Goes
-            }
-        }
-        _ => Moved::Stuck,
-    }
+    let holds = match &**condition {
+        Core::Bool(b) | Core::Value(Value::Bool(b)) => *b,
+        _ => return Moved::Stuck,
+    };
+    let Core::If(_, on_true, on_false) = term else {
+        return Moved::Stuck;
+    };
+    let next = if holds {
+        mem::replace(&mut **on_true, Core::Unit)
+    } else {
+        mem::replace(&mut **on_false, Core::Unit)
+    };
+    *term = next;
+    Moved::Goes
 }
 
 // Of a sequence: its only term, or the terms behind the first.
@@ -123,7 +123,7 @@ fn tuple_redex(alloc: Global, term: &mut Core) -> Result<Moved, OutOfMemory>
     ensures moves { IfOk result (MovesBy tuple_redex (term_of term.old) (term_of term.new)) }
     ensures stays { OnErr result (term_of term.new ≡ term_of term.old) }
 {
-    let Core::Tuple(parts) = term else {
+    let Core::Tuple(parts) = &*term else {
         return Ok(Moved::Stuck);
     };
     if !are_values(parts) {
@@ -166,7 +166,7 @@ fn redex_step(
     ensures stays { OnErr result ((term_of term.new ≡ term_of term.old) × (store_of store.new ≡ store_of store.old)
         × (world.new ≡ world.old)) }
 {
-    match &*term {
+    match *term {
         Core::Int(_) | Core::Bool(_) | Core::Unit | Core::Value(_) | Core::Var(_) => {
             Ok(Moved::Stuck)
         }

@@ -22,7 +22,7 @@ use Rattle.cast_insert.specs.Environments.{plain}
 use Rattle.cast_insert.specs.Elaboration.{Sequence, Bound, MemberBody, elaborate, elaborate_node, elaborate_sequence}
 use Rattle.cast_insert.specs.Elaboration.{elaborate_bindings, elaborate_member, elaborate_members}
 use Rattle.cast_insert.specs.Gathered.{terms_onto, if_of}
-use Rattle.cast_insert.specs.Bodies.{bindings_onto, members_onto}
+use Rattle.cast_insert.specs.Bodies.{bindings_onto, bound_value, members_onto}
 use Rattle.cast_insert.specs.declared.heads.Head.{Head as RustHead}
 use Rattle.cast_insert.specs.Making.{Work, Made, Makes, Refuses, Making, then_make, ◌>>=◌, give}
 use Rattle.cast_insert.specs.Environments.{Environment, Meaning, Head, head_of, heads_of, names_of_heads, with_names}
@@ -165,25 +165,9 @@ bound_then name value variable bound others = record {
   entries = (name, plain (place_of value) variable bound.type) ∷ others.entries;
 }
 
--- what is left of bindings when the value of the first is there
-abbrev pub bindings_from : Ident → Option TypeExpr → Expr → LetBindings → Environment → Typed → Making Bound
-bindings_from name own value rest environment e = do
-  wanted ← written_if own
-  bound ← cast_if (place_of value) wanted e
-  variable ← fresh
-  others ← elaborate_bindings rest environment
-  give (bound_then name value variable bound others)
-
--- what is left when its written type is there, when its value is cast, and when it has its variable
-abbrev bindings_wanted : Ident → Expr → LetBindings → Environment → Typed → Option ℕ → Making Bound
-bindings_wanted name value rest environment e wanted = do
-  bound ← cast_if (place_of value) wanted e
-  variable ← fresh
-  others ← elaborate_bindings rest environment
-  give (bound_then name value variable bound others)
-
-abbrev bindings_cast : Ident → Expr → LetBindings → Environment → Typed → Making Bound
-bindings_cast name value rest environment bound = do
+-- what is left of bindings when the first has its value, and when it has its variable
+abbrev bindings_from : Ident → Expr → LetBindings → Environment → Typed → Making Bound
+bindings_from name value rest environment bound = do
   variable ← fresh
   others ← elaborate_bindings rest environment
   give (bound_then name value variable bound others)
@@ -193,73 +177,63 @@ bindings_named name value rest environment bound variable = do
   others ← elaborate_bindings rest environment
   give (bound_then name value variable bound others)
 
--- the value of the first binding is there, and its written type
-bindings_written : (name : Ident) (own : Option TypeExpr) (value : Expr) (rest : LetBindings)
-    (environment : Environment) (e : Typed) (wanted : Option ℕ) (w0 w1 w2 : Work) →
-    elaborate value environment w0 ≡ Makes e w1 → written_if own w1 ≡ Makes wanted w2 →
-    elaborate_bindings (LetThen name own value rest) environment w0
-    ≡ bindings_wanted name value rest environment e wanted w2
+-- steps one after another, of which the first two are one, or the first three
+two_in_turn : {A B C : Type 0} (made : Made A) (second : A → Making B) (third : B → Making C) →
+    then_make made (λ a work. then_make (second a work) third) ≡ then_make (then_make made second) third
 unfolding then_make
-bindings_written name own value rest environment e wanted w0 w1 w2 a b =
-    ap (λ m. then_make m (bindings_from name own value rest environment)) a
-    ∙ ap (λ m. then_make m (bindings_wanted name value rest environment e)) b
+two_in_turn (Makes a work) second third = refl
+two_in_turn (Refuses kind place last) second third = refl
+
+three_in_turn : {A B C D : Type 0} (made : Made A) (second : A → Making B) (third : A → B → Making C)
+    (fourth : C → Making D) →
+    then_make made (λ a work. then_make (second a work) (λ b work. then_make (third a b work) fourth))
+    ≡ then_make (then_make made (λ a work. then_make (second a work) (third a))) fourth
+unfolding then_make
+three_in_turn (Makes a work) second third fourth = two_in_turn (second a work) (third a) fourth
+three_in_turn (Refuses kind place last) second third fourth = refl
+
+-- bindings are the value of the first, and what is left then
+bindings_first : (name : Ident) (own : Option TypeExpr) (value : Expr) (rest : LetBindings)
+    (environment : Environment) (work : Work) →
+    elaborate_bindings (LetThen name own value rest) environment work
+    ≡ then_make (bound_value own value environment work) (bindings_from name value rest environment)
+bindings_first name own value rest environment work =
+    three_in_turn (elaborate value environment work) (λ e. written_if own)
+    (λ e wanted. cast_if (place_of value) wanted e) (bindings_from name value rest environment)
 
 pub bindings_more : (done : List Binding) (names : Environment) (name : Ident) (own : Option TypeExpr) (value : Expr)
-    (rest : LetBindings) (environment : Environment) (e bound : Typed) (wanted : Option ℕ) (variable : ℕ)
-    (w0 w1 w2 w3 w4 : Work) (whole : Made Bound) → elaborate value environment w0 ≡ Makes e w1 →
-    written_if own w1 ≡ Makes wanted w2 → cast_if (place_of value) wanted e w2 ≡ Makes bound w3 →
-    fresh w3 ≡ Makes variable w4 →
+    (rest : LetBindings) (environment : Environment) (bound : Typed) (variable : ℕ) (w0 w1 w2 : Work)
+    (whole : Made Bound) → bound_value own value environment w0 ≡ Makes bound w1 → fresh w1 ≡ Makes variable w2 →
     bound_behind done names (elaborate_bindings (LetThen name own value rest) environment w0) ≡ whole →
     bound_behind (record { name = variable; bound = bound.term } ∷ done)
-    (names ++ (name, plain (place_of value) variable bound.type) ∷ []) (elaborate_bindings rest environment w4) ≡ whole
+    (names ++ (name, plain (place_of value) variable bound.type) ∷ []) (elaborate_bindings rest environment w2) ≡ whole
 unfolding then_make
-bindings_more done names name own value rest environment e bound wanted variable w0 w1 w2 w3 w4 whole a b c d so_far =
+bindings_more done names name own value rest environment bound variable w0 w1 w2 whole a b so_far =
     let entry : Ident × Meaning = (name, plain (place_of value) variable bound.type) in
     made_as_same (bound_onto (record { name = variable; bound = bound.term } ∷ done) (names ++ entry ∷ []))
     (λ others. bound_onto done names (bound_then name value variable bound others))
-    (elaborate_bindings rest environment w4)
+    (elaborate_bindings rest environment w2)
     (λ others. ap (λ entries. record {
       bindings = bindings_onto done (BindingThen variable bound.term others.bindings);
       entries = entries;
     }) (append_assoc names (entry ∷ []) others.entries))
     ∙ sym (made_as_twice (bound_onto done names) (bound_then name value variable bound)
-    (elaborate_bindings rest environment w4))
-    ∙ sym (ap (bound_behind done names) (bindings_written name own value rest environment e wanted w0 w1 w2 a b
-    ∙ ap (λ m. then_make m (bindings_cast name value rest environment)) c
-    ∙ ap (λ m. then_make m (bindings_named name value rest environment bound)) d))
+    (elaborate_bindings rest environment w2))
+    ∙ sym (ap (bound_behind done names) (bindings_first name own value rest environment w0
+    ∙ ap (λ m. then_make m (bindings_from name value rest environment)) a
+    ∙ ap (λ m. then_make m (bindings_named name value rest environment bound)) b))
     ∙ so_far
 
 pub bindings_refused : (done : List Binding) (names : Environment) (name : Ident) (own : Option TypeExpr)
     (value : Expr) (rest : LetBindings) (environment : Environment) (work : Work) (whole : Made Bound)
-    (kind : RefusalKind) (place : Pos) (last : Work) → elaborate value environment work ≡ Refuses kind place last →
+    (kind : RefusalKind) (place : Pos) (last : Work) →
+    bound_value own value environment work ≡ Refuses kind place last →
     bound_behind done names (elaborate_bindings (LetThen name own value rest) environment work) ≡ whole →
     whole ≡ Refuses kind place last
 unfolding then_make
 bindings_refused done names name own value rest environment work whole kind place last a so_far =
-    sym so_far ∙ ap (λ m. bound_behind done names (then_make m (bindings_from name own value rest environment))) a
-
-pub bindings_unwritten : (done : List Binding) (names : Environment) (name : Ident) (own : Option TypeExpr)
-    (value : Expr) (rest : LetBindings) (environment : Environment) (e : Typed) (w0 w1 : Work) (whole : Made Bound)
-    (kind : RefusalKind) (place : Pos) (last : Work) → elaborate value environment w0 ≡ Makes e w1 →
-    written_if own w1 ≡ Refuses kind place last →
-    bound_behind done names (elaborate_bindings (LetThen name own value rest) environment w0) ≡ whole →
-    whole ≡ Refuses kind place last
-unfolding then_make
-bindings_unwritten done names name own value rest environment e w0 w1 whole kind place last a b so_far =
-    sym so_far ∙ ap (λ m. bound_behind done names (then_make m (bindings_from name own value rest environment))) a
-    ∙ ap (λ m. bound_behind done names (then_make m (bindings_wanted name value rest environment e))) b
-
-pub bindings_uncast : (done : List Binding) (names : Environment) (name : Ident) (own : Option TypeExpr)
-    (value : Expr) (rest : LetBindings) (environment : Environment) (e : Typed) (wanted : Option ℕ) (w0 w1 w2 : Work)
-    (whole : Made Bound) (kind : RefusalKind) (place : Pos) (last : Work) →
-    elaborate value environment w0 ≡ Makes e w1 →
-    written_if own w1 ≡ Makes wanted w2 → cast_if (place_of value) wanted e w2 ≡ Refuses kind place last →
-    bound_behind done names (elaborate_bindings (LetThen name own value rest) environment w0) ≡ whole →
-    whole ≡ Refuses kind place last
-unfolding then_make
-bindings_uncast done names name own value rest environment e wanted w0 w1 w2 whole kind place last a b c so_far =
-    sym so_far ∙ ap (bound_behind done names) (bindings_written name own value rest environment e wanted w0 w1 w2 a b
-    ∙ ap (λ m. then_make m (bindings_cast name value rest environment)) c)
+    sym so_far ∙ ap (bound_behind done names) (bindings_first name own value rest environment work
+    ∙ ap (λ m. then_make m (bindings_from name value rest environment)) a)
 
 pub bindings_done : (done : List Binding) (names : Environment) (environment : Environment) (work : Work)
     (whole : Made Bound) → bound_behind done names (elaborate_bindings NoLets environment work) ≡ whole →
@@ -304,8 +278,6 @@ pub ruleset loop_steps = (
   sequence_last,
   sequence_none,
   bindings_refused,
-  bindings_unwritten,
-  bindings_uncast,
   bindings_done,
   members_refused,
   members_done,

@@ -7,15 +7,18 @@ use Rattle.type_graph.specs.Forming.{intern}
 use Rattle.core_calc.specs.Terms.{Members, Bindings, MemberThen, BindingThen, Lambda, Prim}
 use Rattle.core_calc.specs.Terms.{Member, Binding}
 use Rattle.core_calc.specs.Views.{term_of, terms_of, bindings_of, names_of}
-use Rattle.surface_trees.specs.Trees.{Exprs}
+use Rattle.surface_trees.specs.declared.names.Ident.{Ident}
+use Rattle.surface_trees.specs.declared.exprs.Binding.{Binding as RustBinding, out-Binding}
+use Rattle.surface_trees.specs.Trees.{TypeExpr, Expr, Exprs}
+use Rattle.surface_trees.specs.Views.{expr_of, written_of}
 use Rattle.cast_insert.specs.declared.elaboration.Sequence.{Sequence as RustSequence}
 use Rattle.cast_insert.specs.declared.elaboration.Bound.{Bound as RustBound}
 use Rattle.cast_insert.specs.declared.elaboration.Gathered.{Gathered}
 use Rattle.cast_insert.specs.declared.elaboration.MemberBody.{MemberBody as RustMemberBody}
-use Rattle.cast_insert.specs.Sources.{last_place}
-use Rattle.cast_insert.specs.Making.{Making, ◌>>=◌, give, form, Typed, typed, cast_if, cast_to}
+use Rattle.cast_insert.specs.Sources.{last_place, place_of}
+use Rattle.cast_insert.specs.Making.{Making, ◌>>=◌, give, form, Typed, typed, cast_if, cast_to, written_if}
 use Rattle.cast_insert.specs.Environments.{Environment, with_names, variables}
-use Rattle.cast_insert.specs.Elaboration.{Sequence, seq, Bound, Operands, MemberBody, elaborate_sequence}
+use Rattle.cast_insert.specs.Elaboration.{Sequence, seq, Bound, Operands, MemberBody, elaborate, elaborate_sequence}
 use Rattle.cast_insert.specs.Operators.{answer_of, answer_type}
 use Rattle.cast_insert.specs.Scoped.{env_of}
 use Rattle.cast_insert.specs.Views.{place_if}
@@ -42,6 +45,23 @@ abbrev pub members_onto : List Member → Members → Members
 members_onto [] members = members
 members_onto (one ∷ before) members =
     members_onto before (MemberThen one.name one.parameters one.body one.type members)
+
+-- a binding's name, its written type, and its value
+abbrev pub bound_name_in : RustBinding → Ident
+bound_name_in binding = (out-Binding binding).name
+
+abbrev pub type_in : RustBinding → Option TypeExpr
+type_in binding = written_of (out-Binding binding).ty
+
+abbrev pub value_in : RustBinding → Expr
+value_in binding = expr_of (out-Binding binding).value
+
+-- the value of a binding, at its written type if it has one
+abbrev pub bound_value : Option TypeExpr → Expr → Environment → Making Typed
+bound_value own value environment = do
+  e ← elaborate value environment
+  wanted ← written_if own
+  cast_if (place_of value) wanted e
 
 -- a function of these parameters with this body
 abbrev pub function_of : Environment → List ℕ → Typed → Making Typed

@@ -7,25 +7,27 @@ ghost use Rattle.grift_base.specs.declared.places.Pos.{Pos};
 ghost use Rattle.type_graph.specs.Rows.{places_of};
 ghost use Rattle.type_graph.specs.TypeTables.{MayBePart};
 ghost use Rattle.core_calc.specs.Terms.{Group, Let, NoBindings, NoMembers, Seq, binding_list, member_list};
-ghost use Rattle.core_calc.specs.Views.{bindings_of, members_of, terms_of};
+ghost use Rattle.core_calc.specs.Terms.{term_list};
+ghost use Rattle.core_calc.specs.Views.{bindings_of, members_of, names_of, term_of, terms_of};
 ghost use Rattle.surface_trees.specs.Trees.{AscribeNode, BeginNode, PrimNode, TupleNode};
 ghost use Rattle.surface_trees.specs.Views.{expr_of, exprs_of, lambda_of, lets_of, letrecs_of, node_of, type_of};
-ghost use Rattle.cast_insert.specs.Sources.{how_many, last_place};
+ghost use Rattle.cast_insert.specs.Sources.{how_many, last_place, place_of};
 ghost use Rattle.cast_insert.specs.Making.{Makes, typed};
-ghost use Rattle.cast_insert.specs.Environments.{with_names};
+ghost use Rattle.cast_insert.specs.Environments.{plain, with_names};
 ghost use Rattle.cast_insert.specs.Calls.{call_by};
 ghost use Rattle.cast_insert.specs.Elaboration.{elaborate, elaborate_node, elaborate_all, elaborate_each};
 ghost use Rattle.cast_insert.specs.Elaboration.{elaborate_operands, elaborate_sequence, elaborate_bindings};
 ghost use Rattle.cast_insert.specs.Elaboration.{elaborate_lambda, elaborate_member, elaborate_members, seq};
 ghost use Rattle.cast_insert.specs.Programs.{AreSources, IsSource, IsSourceBody, IsSourceLambda, IsSourceNode};
-ghost use Rattle.cast_insert.specs.Programs.{AreSourceBindings, AreSourceMembers};
+ghost use Rattle.cast_insert.specs.Programs.{AreSourceBindings, AreSourceMembers, MayBeWritten};
 ghost use Rattle.cast_insert.specs.Room.{AreParts, Grows, MayPart};
 ghost use Rattle.cast_insert.specs.Scoped.{env_of};
 ghost use Rattle.cast_insert.specs.Seen.{operand_seen};
 ghost use Rattle.cast_insert.specs.Heads.{head_seen, heads_seen};
 ghost use Rattle.cast_insert.specs.Gathered.{given_of};
-ghost use Rattle.cast_insert.specs.Bodies.{bindings_onto, body_of, bound_of, function_of, gathered_of, lambda_rest};
-ghost use Rattle.cast_insert.specs.Bodies.{lambda_with, member_with, members_onto, operation_on, sequence_of};
+ghost use Rattle.cast_insert.specs.Bodies.{bindings_onto, body_of, bound_name_in, bound_of, bound_value, function_of};
+ghost use Rattle.cast_insert.specs.Bodies.{gathered_of, lambda_rest, lambda_with, member_with, members_onto};
+ghost use Rattle.cast_insert.specs.Bodies.{operation_on, sequence_of, type_in, value_in};
 ghost use Rattle.cast_insert.specs.Views.{Answers, place_if, typed_of, work_of};
 
 use crate::copies::refused;
@@ -34,7 +36,7 @@ use crate::joining::{
     Given, Placed, called_dyn, given_first, joined, literal, plain, projected, terms_first, tuple,
     turned, used,
 };
-use crate::names::{Named, Scopes};
+use crate::names::{Meaning, Named, Scopes};
 use crate::operands::{Operand, answer_type, fitted, operands_of};
 use crate::parameters::{bind_names, parameter_types, plain_name, variables_of};
 use crate::progress::{Progress, Typed};
@@ -47,7 +49,7 @@ use grift_base::operators::PrimOp;
 use grift_base::places::{Pos, TypeId};
 use grift_base::refusals::{FrontFault, RefusalKind};
 use std::alloc::Global;
-use surface_trees::exprs::{Bindings, Expr, ExprList, ExprNode, LambdaExpr, Members};
+use surface_trees::exprs::{Binding, Bindings, Expr, ExprList, ExprNode, LambdaExpr, Members};
 use surface_trees::types::TypeExpr;
 use type_graph::rows::{Row, TypeIds};
 
@@ -88,6 +90,15 @@ impl Sequence {
     }
 }
 
+// What is handed on of an expression is its box: a function that is handed the expression itself shows all of it.
+
+// The place of an expression.
+fn place(e: &Box<Expr>) -> Pos
+    ensures { result ≡ place_of (expr_of e.now.value) }
+{
+    e.pos
+}
+
 // The place of the last expression, or this one where there is none.
 fn last_pos(pos: Pos, list: &ExprList) -> Pos
     ensures { result ≡ last_place pos (exprs_of list.now) }
@@ -95,7 +106,7 @@ fn last_pos(pos: Pos, list: &ExprList) -> Pos
     let mut last = pos;
     let mut left = list;
     while let ExprList::Cons(first, rest) = left {
-        last = first.pos;
+        last = place(first);
         left = rest;
     }
     last
@@ -220,6 +231,71 @@ fn push(names: &mut Vec<Named>, named: Named) -> Result<(), OutOfMemory>
     Ok(())
 }
 
+// Puts a term in front of the others.
+fn push_term(alloc: Global, terms: &mut CoreList, core: Box<Core>) -> Result<(), OutOfMemory>
+    ensures { OnOk result (term_list (terms_of terms.new) ≡ term_of core.value ∷ term_list (terms_of terms.old)) }
+{
+    terms.push_front(alloc, Box::into_inner(core))?;
+    Ok(())
+}
+
+// Puts a bound term in front of the others.
+fn push_binding(
+    alloc: Global,
+    bindings: &mut CoreBindings,
+    name: VarId,
+    core: Box<Core>,
+) -> Result<(), OutOfMemory>
+    ensures { OnOk result (binding_list (bindings_of bindings.new)
+        ≡ record { name = name.0; bound = term_of core.value } ∷ binding_list (bindings_of bindings.old)) }
+{
+    let value = Box::into_inner(core);
+    bindings.push_front(alloc, CoreBinding { name, value })?;
+    Ok(())
+}
+
+// Puts a member whose name means this in front of the others.
+fn push_member(
+    alloc: Global,
+    members: &mut GroupMembers,
+    meaning: Meaning,
+    member: MemberBody,
+) -> Result<(), OutOfMemory>
+    ensures { OnOk result (member_list (members_of members.new) ≡ record {
+      name = meaning.variable.0;
+      parameters = names_of member.variables;
+      body = term_of member.body.value;
+      type = meaning.ty.0;
+    } ∷ member_list (members_of members.old)) }
+{
+    let body = Box::into_inner(member.body);
+    members.push_front(
+        alloc,
+        GroupMember {
+            name: meaning.variable,
+            params: member.variables,
+            body,
+            ty: meaning.ty,
+        },
+    )?;
+    Ok(())
+}
+
+// The name of a binding, which means this variable of this type.
+fn binding_name(
+    alloc: Global,
+    binding: &Box<Binding>,
+    variable: VarId,
+    ty: TypeId,
+) -> Result<Named, OutOfMemory>
+    ensures { IfOk result (λ named. env_of (named ∷ []) ≡ (
+      bound_name_in binding.now.value,
+      plain (place_of (value_in binding.now.value)) variable.0 ty.0,
+    ) ∷ []) }
+{
+    plain_name(alloc, &binding.name, binding.value.pos, variable, ty)
+}
+
 // Bindings that were gathered with the last one first, in their order.
 fn turned_bindings(bindings: CoreBindings) -> CoreBindings
     ensures { bindings_of result ≡ bindings_onto (binding_list (bindings_of bindings)) NoBindings }
@@ -249,9 +325,28 @@ pub(crate) fn elaborate(
     ensures grows { OnOk result (Grows progress.old.types progress.new.types) }
     ensures part { IfOk result (λ e. MayBePart progress.new.types e.ty.0) }
 {
-    let typed = node(alloc, progress, scopes, e.pos, &e.node)?;
-    progress.not_too_large(e.pos, typed.ty)?;
+    let pos = e.pos;
+    let typed = node(alloc, progress, scopes, pos, &e.node)?;
+    progress.not_too_large(pos, typed.ty)?;
     Ok(typed)
+}
+
+// An expression inside another.
+#[cycle(elaborate)]
+fn inside(
+    alloc: Global,
+    progress: &mut Progress,
+    scopes: &mut Scopes,
+    e: &Box<Expr>,
+) -> Result<Typed, FrontFault>
+    requires { IsSource (expr_of e.now.value) }
+    ensures answer { Answers result typed_of (work_of progress.new)
+        (elaborate (expr_of e.now.value) scopes.old (work_of progress.old)) }
+    ensures scopes { OnOk result (scopes.new ≡ scopes.old) }
+    ensures grows { OnOk result (Grows progress.old.types progress.new.types) }
+    ensures part { IfOk result (λ e. MayBePart progress.new.types e.ty.0) }
+{
+    elaborate(alloc, progress, scopes, e)
 }
 
 // An expression, without the test of its type's size.
@@ -276,8 +371,8 @@ fn node(
         ExprNode::Name(name) => used(alloc, progress, pos, scopes.find(name)),
         ExprNode::Lambda(l) => lambda(alloc, progress, scopes, l),
         ExprNode::Call(function, arguments) => {
-            let f = elaborate(alloc, progress, scopes, function)?;
-            call(alloc, progress, scopes, pos, function.pos, f, arguments)
+            let f = inside(alloc, progress, scopes, function)?;
+            call(alloc, progress, scopes, pos, place(function), f, arguments)
         }
         ExprNode::Let(..) => let_form(alloc, progress, scopes, node),
         ExprNode::Letrec(..) => letrec_form(alloc, progress, scopes, node),
@@ -286,8 +381,8 @@ fn node(
         ExprNode::Ascribe(e, t) => ascribed(alloc, progress, scopes, pos, e, t),
         ExprNode::Tuple(parts) => tuple_form(alloc, progress, scopes, parts),
         ExprNode::Proj(whole, part, part_pos) => {
-            let e = elaborate(alloc, progress, scopes, whole)?;
-            projected(alloc, progress, whole.pos, *part_pos, e, *part)
+            let e = inside(alloc, progress, scopes, whole)?;
+            projected(alloc, progress, place(whole), *part_pos, e, *part)
         }
         ExprNode::Prim(operator, list) => operation(alloc, progress, scopes, *operator, list),
     }
@@ -349,16 +444,17 @@ fn ascribed(
     progress: &mut Progress,
     scopes: &mut Scopes,
     pos: Pos,
-    e: &Expr,
+    e: &Box<Expr>,
     written: &TypeExpr,
 ) -> Result<Typed, FrontFault>
-    requires { IsSourceNode (AscribeNode (expr_of e.now) (type_of written.now)) }
+    requires { IsSourceNode (AscribeNode (expr_of e.now.value) (type_of written.now)) }
     ensures answer { Answers result typed_of (work_of progress.new)
-        (elaborate_node (AscribeNode (expr_of e.now) (type_of written.now)) pos scopes.old (work_of progress.old)) }
+        (elaborate_node (AscribeNode (expr_of e.now.value) (type_of written.now)) pos scopes.old
+        (work_of progress.old)) }
     ensures scopes { OnOk result (scopes.new ≡ scopes.old) }
     ensures grows { OnOk result (Grows progress.old.types progress.new.types) }
 {
-    let e = elaborate(alloc, progress, scopes, e)?;
+    let e = inside(alloc, progress, scopes, e)?;
     let ty = progress.written(alloc, written)?;
     progress.cast_to(alloc, pos, ty, e)
 }
@@ -437,16 +533,16 @@ fn if_form(
     let ExprNode::If(condition, on_true, on_false) = node else {
         return Err(FrontFault::OutOfMemory);
     };
-    let test = elaborate(alloc, progress, scopes, condition)?;
-    let truth = progress.cast_to_row(alloc, condition.pos, Row::Bool, test)?;
-    let first = elaborate(alloc, progress, scopes, on_true)?;
-    let second = elaborate(alloc, progress, scopes, on_false)?;
+    let test = inside(alloc, progress, scopes, condition)?;
+    let truth = progress.cast_to_row(alloc, place(condition), Row::Bool, test)?;
+    let first = inside(alloc, progress, scopes, on_true)?;
+    let second = inside(alloc, progress, scopes, on_false)?;
     let first = Placed {
-        pos: on_true.pos,
+        pos: place(on_true),
         e: first,
     };
     let second = Placed {
-        pos: on_false.pos,
+        pos: place(on_false),
         e: second,
     };
     joined(alloc, progress, pos, truth, first, second)
@@ -510,7 +606,7 @@ fn all(
             types: Vec::new(alloc),
         });
     };
-    let e = elaborate(alloc, progress, scopes, first)?;
+    let e = inside(alloc, progress, scopes, first)?;
     let given = all(alloc, progress, scopes, rest)?;
     Ok(given_first(alloc, e, given)?)
 }
@@ -536,8 +632,8 @@ fn each(
     let [ty, more @ ..] = wanted else {
         return Ok(CoreList::Nil);
     };
-    let e = elaborate(alloc, progress, scopes, first)?;
-    let argument = progress.cast_to(alloc, first.pos, *ty, e)?;
+    let e = inside(alloc, progress, scopes, first)?;
+    let argument = progress.cast_to(alloc, place(first), *ty, e)?;
     let others = each(alloc, progress, scopes, rest, more)?;
     Ok(terms_first(alloc, argument, others)?)
 }
@@ -573,8 +669,8 @@ fn operands(
             content,
         });
     };
-    let e = elaborate(alloc, progress, scopes, first)?;
-    let one = fitted(alloc, progress, first.pos, content, e, *operand)?;
+    let e = inside(alloc, progress, scopes, first)?;
+    let one = fitted(alloc, progress, place(first), content, e, *operand)?;
     let others = operands(alloc, progress, scopes, rest, more, one.content)?;
     Ok(Gathered {
         terms: terms_first(alloc, one.held, others.terms)?,
@@ -699,9 +795,9 @@ fn in_order(
                 ty,
             });
         };
-        let e = elaborate(alloc, progress, scopes, first)?;
+        let e = inside(alloc, progress, scopes, first)?;
         let ty = e.ty;
-        terms.push_front(alloc, Box::into_inner(e.core))?;
+        push_term(alloc, &mut terms, e.core)?;
         if let ExprList::Nil = &**rest {
             return Ok(Sequence {
                 terms: turned(terms),
@@ -730,26 +826,38 @@ fn bindings(
     let mut names = Vec::new(alloc);
     let mut left = list;
     while let Bindings::Cons(first, rest) = left {
-        let e = elaborate(alloc, progress, scopes, &first.value)?;
-        let wanted = progress.written_if(alloc, &first.ty)?;
-        let bound = progress.cast_if(alloc, first.value.pos, wanted, e)?;
+        let bound = bound_value(alloc, progress, scopes, first)?;
         let variable = progress.fresh()?;
-        let named = plain_name(alloc, &first.name, first.value.pos, variable, bound.ty)?;
+        let named = binding_name(alloc, first, variable, bound.ty)?;
         push(&mut names, named)?;
-        let value = Box::into_inner(bound.core);
-        done.push_front(
-            alloc,
-            CoreBinding {
-                name: variable,
-                value,
-            },
-        )?;
+        push_binding(alloc, &mut done, variable, bound.core)?;
         left = rest;
     }
     Ok(Bound {
         bindings: turned_bindings(done),
         names,
     })
+}
+
+// The value of a binding, at its written type if it has one.
+#[cycle(elaborate)]
+fn bound_value(
+    alloc: Global,
+    progress: &mut Progress,
+    scopes: &mut Scopes,
+    binding: &Box<Binding>,
+) -> Result<Typed, FrontFault>
+    requires value { IsSource (value_in binding.now.value) }
+    requires written { MayBeWritten (type_in binding.now.value) }
+    ensures answer { Answers result typed_of (work_of progress.new)
+        (bound_value (type_in binding.now.value) (value_in binding.now.value) scopes.old (work_of progress.old)) }
+    ensures scopes { OnOk result (scopes.new ≡ scopes.old) }
+    ensures grows { OnOk result (Grows progress.old.types progress.new.types) }
+{
+    let Binding { name: _, ty, value } = &**binding;
+    let e = elaborate(alloc, progress, scopes, value)?;
+    let wanted = progress.written_if(alloc, ty)?;
+    progress.cast_if(alloc, value.pos, wanted, e)
 }
 
 // The members of a `letrec` with these heads.
@@ -775,15 +883,7 @@ fn members(
             return Ok(turned_members(done));
         };
         let member = member(alloc, progress, scopes, &first.fun, head)?;
-        done.push_front(
-            alloc,
-            GroupMember {
-                name: head.meaning.variable,
-                params: member.variables,
-                body: Box::into_inner(member.body),
-                ty: head.meaning.ty,
-            },
-        )?;
+        push_member(alloc, &mut done, head.meaning, member)?;
         left = rest;
         heads_left = more;
     }

@@ -31,22 +31,8 @@ pub fn converted(alloc: Global, casts: &mut Casts, core: &Core) -> Result<CoerTe
             let body = part(alloc, casts, body)?;
             CoerTerm::Lambda(copied(alloc, params)?, body, *ty)
         }
-        Core::Group(members, body) => {
-            let members = converted_members(alloc, casts, members)?;
-            CoerTerm::Group(members, part(alloc, casts, body)?)
-        }
-        Core::Let(bindings, body) => {
-            let bindings = converted_bindings(alloc, casts, bindings)?;
-            CoerTerm::Let(bindings, part(alloc, casts, body)?)
-        }
-        Core::Call(function, arguments) => {
-            let function = part(alloc, casts, function)?;
-            CoerTerm::Call(function, converted_all(alloc, casts, arguments)?)
-        }
-        Core::If(condition, on_true, on_false) => {
-            let condition = part(alloc, casts, condition)?;
-            let on_true = part(alloc, casts, on_true)?;
-            CoerTerm::If(condition, on_true, part(alloc, casts, on_false)?)
+        Core::Group(..) | Core::Let(..) | Core::Call(..) | Core::If(..) => {
+            return several(alloc, casts, core);
         }
         Core::Seq(terms) => CoerTerm::Seq(converted_all(alloc, casts, terms)?),
         Core::Cast(term, from, to, label) => {
@@ -66,6 +52,37 @@ pub fn converted(alloc: Global, casts: &mut Casts, core: &Core) -> Result<CoerTe
         Core::Prim(operator, operands) => {
             CoerTerm::Prim(*operator, converted_all(alloc, casts, operands)?)
         }
+    };
+    Ok(term)
+}
+
+// The same of a form of several parts; no other form comes here. It is a function of its own, since what a proof costs
+// goes by the calls of a function times its exits.
+#[cycle(conversion)]
+fn several(alloc: Global, casts: &mut Casts, core: &Core) -> Result<CoerTerm, OutOfMemory>
+    ensures term { IfOk result (λ t. row_term_of t ≡ (converted (cast_views casts.old) (term_of core.now)).term) }
+    ensures casts { OnOk result
+        (cast_views casts.new ≡ (converted (cast_views casts.old) (term_of core.now)).casts) }
+{
+    let term = match core {
+        Core::Group(members, body) => {
+            let members = converted_members(alloc, casts, members)?;
+            CoerTerm::Group(members, part(alloc, casts, body)?)
+        }
+        Core::Let(bindings, body) => {
+            let bindings = converted_bindings(alloc, casts, bindings)?;
+            CoerTerm::Let(bindings, part(alloc, casts, body)?)
+        }
+        Core::Call(function, arguments) => {
+            let function = part(alloc, casts, function)?;
+            CoerTerm::Call(function, converted_all(alloc, casts, arguments)?)
+        }
+        Core::If(condition, on_true, on_false) => {
+            let condition = part(alloc, casts, condition)?;
+            let on_true = part(alloc, casts, on_true)?;
+            CoerTerm::If(condition, on_true, part(alloc, casts, on_false)?)
+        }
+        _ => return Err(OutOfMemory),
     };
     Ok(term)
 }

@@ -10,9 +10,9 @@ use Rattle.low_ir.specs.Procedures.{Proc}
 use Rattle.low_ir.specs.Frames.{frame_bytes, frame_room, largest_frame}
 use Rattle.rt_cast.specs.Procs.{cast_procs}
 use Rattle.rt_refs.specs.RefProcs.{ref_procs}
-use Rattle.lower.specs.declared.served.Served.{Served}
-use Rattle.lower.specs.Lowered.{entry_proc, low_proc, lowered}
-use Rattle.lower.specs.Sets.{merged_procs}
+use Rattle.lowered_code.specs.declared.served.Served.{Served}
+use Rattle.lowered_code.specs.Lowered.{entry_proc, low_proc, lowered}
+use Rattle.lower.specs.MergedProcs.{merged_procs}
 use Rattle.lower.proofs.Public.{AreSized}
 
 -- where the largest frame has room for no more

@@ -1,27 +1,6 @@
 -- An image follows the program that its source is, and whole objects fill its region at each moment.
-use Rattle.std.proofs.Common.{
-  ◌≡◌,
-  ℕ,
-  zero,
-  suc,
-  ◌+◌,
-  ◌*◌,
-  ◌<◌,
-  ◌≤◌,
-  ◌^◌,
-  true,
-  false,
-  List,
-  [],
-  ◌∷◌,
-  ◌++◌,
-  length,
-  map,
-  Some,
-  refl,
-  sym,
-  ◌∙◌,
-}
+use Rattle.std.proofs.Common.{◌≡◌, ℕ, suc, ◌+◌, ◌*◌, ◌<◌, ◌≤◌, ◌^◌, true, false, List, [], ◌∷◌, length, map, Some, refl}
+use Rattle.std.proofs.Common.{sym, ◌∙◌}
 use Rattle.std.proofs.Common.{ap, subst}
 use Rattle.std.proofs.Common.{slice_get, arith, le_refl}
 use Rattle.std.specs.Prelude.{All}
@@ -74,15 +53,17 @@ use Rattle.low_ir.specs.Prices.{low_price}
 use Rattle.low_ir.specs.Procedures.{Proc}
 use Rattle.low_ir.specs.Run.{LowShown, Setting, low_machine, low_start}
 use Rattle.coercion_norm.specs.Held.{Layout}
-use Rattle.lower.specs.declared.served.CastWay.{CastWay}
-use Rattle.lower.specs.declared.served.Served.{Served}
-use Rattle.lower.specs.CastWays.{cast_ways}
-use Rattle.lower.specs.Lowered.{low_proc, entry_proc, lowered}
+use Rattle.lowered_code.specs.declared.served.CastWay.{CastWay}
+use Rattle.lowered_code.specs.declared.served.Served.{Served}
+use Rattle.lowered_code.specs.CastWays.{cast_ways}
+use Rattle.lowered_code.specs.Lowered.{low_proc, entry_proc, lowered}
 use Rattle.lower.specs.Keeping.{KeepsFlat, PaysFlat}
 use Rattle.lower.specs.SimulationClaims.{AreNarrow, IsLowered, StorageIsWhole}
-use Rattle.lower.specs.Serving.{all_narrow}
-use Rattle.lower.specs.Sets.{merged_numbers, merged_procs, with_casts}
-use Rattle.lower.proofs.Public.{words_follow_procedures-storage, words_keep_the_account, procedures_are_narrow}
+use Rattle.lowered_code.specs.Serving.{all_narrow}
+use Rattle.lower.specs.MergedProcs.{merged_numbers, merged_procs}
+use Rattle.lower.specs.Sets.{with_casts}
+use Rattle.lower.proofs.Public.{words_follow_procedures-storage, words_keep_the_account}
+use Rattle.lower.proofs.Public.{procedures_are_narrow}
 use Rattle.lower.proofs.Public.{AreSized}
 use Rattle.reg_assign.specs.Slotted.{room_in}
 use Rattle.reg_assign.specs.Images.{ExceedsStack, FollowsWords, HasRegionOf, IsImageOfWords}
@@ -90,7 +71,8 @@ use Rattle.compile_driver.specs.Compiling.{FollowsProgram}
 use Rattle.compile_driver.specs.Space.{KeepsSpace, KeepsStorage}
 use Rattle.compile_driver.proofs.FewWords.{procedures_have_few_words}
 use Rattle.lower.specs.MergedMeaning.{width_of}
-use Rattle.lower.proofs.Public.{casts_held, entry_there, tallest_low}
+use Rattle.lower.proofs.Public.{casts_held, tallest_low}
+use Rattle.lower.proofs.Public.{entry_there}
 use Rattle.compile_driver.proofs.Kept.{kept}
 use Rattle.compile_driver.proofs.Layouts.{layout_stays}
 use Rattle.compile_driver.proofs.Starting.{told, setting, layout, runs_in, code_addresses, are_placed}

@@ -45,10 +45,11 @@ use Rattle.low_ir.specs.Counting.{Exceeds, IsWantOfRegion, any_calls}
 use Rattle.low_ir.specs.Prices.{low_price}
 use Rattle.low_ir.specs.Procedures.{Proc}
 use Rattle.low_ir.specs.Run.{Setting, LowShown, LowState, low_machine, low_start}
-use Rattle.lower.specs.CastWays.{cast_ways}
+use Rattle.lowered_code.specs.CastWays.{cast_ways}
 use Rattle.lower.specs.Keeping.{KeepsFlat, PaysFlat}
-use Rattle.lower.specs.Lowered.{entry_proc}
-use Rattle.lower.proofs.Public.{programs_want_no_room, numbered_words}
+use Rattle.lowered_code.specs.Lowered.{entry_proc}
+use Rattle.lower.proofs.Public.{programs_want_no_room}
+use Rattle.lower.proofs.Public.{numbered_words}
 use Rattle.rv_select.specs.Prices.{start_price}
 use Rattle.rv_select.specs.Stacks.{frames_size}
 use Rattle.reg_assign.specs.Slotted.{room_in}

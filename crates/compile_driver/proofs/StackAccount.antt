@@ -1,5 +1,5 @@
 -- Where the machine has stopped for want of stack, the calculus has had as many contexts pending as the account says.
-use Rattle.std.proofs.Common.{◌≡◌, ◌⊎◌, inl, inr, ℕ, zero, suc, ◌+◌, ◌-◌, ◌*◌, ◌<◌, ◌≤◌, List, [], ◌∷◌, ◌++◌, length}
+use Rattle.std.proofs.Common.{◌≡◌, ◌⊎◌, inl, inr, ℕ, zero, suc, ◌+◌, ◌*◌, ◌<◌, ◌≤◌, List, [], ◌∷◌, ◌++◌, length}
 use Rattle.std.proofs.Common.{Option, Some, None, refl, sym, ap, ◌∙◌, subst, arith, le_refl, le_trans, append-nil}
 use Rattle.std.proofs.Math.Nat.{max-le, mul-le-mul}
 use Rattle.std.proofs.lemmas.Bool.{cases_lt}

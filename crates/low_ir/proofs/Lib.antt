@@ -6,3 +6,4 @@ mod CallEndings
 mod Leading
 pub mod CountedWords
 mod Priced
+mod Made

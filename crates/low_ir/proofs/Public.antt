@@ -6,3 +6,5 @@ pub use Rattle.low_ir.proofs.Priced.{step_pays as steps_are_paid, costs_on, cost
 pub use Rattle.low_ir.proofs.CallEndings.{call_of, call_has_room}
 -- what each step leads to, a run leads to
 pub use Rattle.low_ir.proofs.Leading.{LeadsTo, leads_along, leads_given, leads_if}
+-- what holds of code that was made leads to what holds of that with something in front
+pub use Rattle.low_ir.proofs.Made.{extended}

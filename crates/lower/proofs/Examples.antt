@@ -28,8 +28,8 @@ use Rattle.flat_ir.specs.declared.code.Operation.TheVariants.{Move, Prim, Tuple,
 use Rattle.flat_ir.specs.Bodies.{Body, Give, Call, Choose, LetBody, LetGroup, Proc}
 use Rattle.flat_ir.specs.Closed.{is_closed}
 use Rattle.flat_ir.specs.Counts.{flat_run_in}
-use Rattle.lower.specs.declared.served.Served.{Served}
-use Rattle.lower.specs.Lowered.{lowered, entry_proc}
+use Rattle.lowered_code.specs.declared.served.Served.{Served}
+use Rattle.lowered_code.specs.Lowered.{lowered, entry_proc}
 use Rattle.lower.specs.Sets.{numbered_from}
 
 abbrev types : TypeRows

@@ -1,10 +1,8 @@
 pub mod Public
 mod Examples
-mod Gathering
-mod GroupTurns
-mod closing
+mod Sets
+mod SchemePrograms
 mod heap
 mod simulation
 mod words
-mod references
 mod merging

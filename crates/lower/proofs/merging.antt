@@ -1,5 +1,5 @@
 -- The merged scheme: what its procedures come to for casts, parts, cells and calls.
-pub mod Laws
+pub mod MeaningLaws
 pub mod Like
 pub mod Opened
 pub mod States
@@ -10,11 +10,14 @@ pub mod Chains
 pub mod Casts
 pub mod Tags
 pub mod Parts
-pub mod Reads
-pub mod Writes
+pub mod Reading
+pub mod Writing
 pub mod Cells
 pub mod Arguments
 pub mod Calls
 pub mod Products
 pub mod Serving
 pub mod HeldCasts
+pub mod Fills
+pub mod MergedSet
+pub mod RoomCalls

@@ -10,7 +10,6 @@ pub mod Calls
 pub mod Served
 pub mod Operators
 pub mod Services
-pub mod Fills
 pub mod Tags
 pub mod Casts
 pub mod Serving

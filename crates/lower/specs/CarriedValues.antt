@@ -17,7 +17,7 @@ use Rattle.coercion_norm.specs.ObjectsOfRows.{header}
 use Rattle.flat_ir.specs.Bodies.{Proc}
 use Rattle.flat_ir.specs.Machine.{FlatValue, FlatValues, FlatStore}
 use Rattle.lower.specs.Meanings.{Meaning}
-use Rattle.lower.specs.Numbering.{function_offset}
+use Rattle.lowered_code.specs.Numbering.{function_offset}
 
 -- the procedure of the function at a place of a group, which begins with this procedure, has so many functions and has
 -- captured so many names

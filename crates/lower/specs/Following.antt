@@ -21,10 +21,10 @@ use Rattle.flat_ir.specs.Counts.{flat_run_in}
 use Rattle.flat_ir.specs.FlatTally.{flat_tally_in}
 use Rattle.flat_ir.specs.Machine.{first_world}
 use Rattle.rt_cast.specs.States.{Placed}
-use Rattle.lower.specs.declared.served.Served.{Served}
-use Rattle.lower.specs.CastWays.{cast_ways}
+use Rattle.lowered_code.specs.declared.served.Served.{Served}
+use Rattle.lowered_code.specs.CastWays.{cast_ways}
 use Rattle.lower.specs.Keeping.{FitsMeasures, KeepsFlat, PaysFlat}
-use Rattle.lower.specs.Lowered.{entry_proc}
+use Rattle.lowered_code.specs.Lowered.{entry_proc}
 use Rattle.lower.specs.Meanings.{Meaning}
 use Rattle.lower.specs.Storage.{Passes}
 use Rattle.lower.specs.SchemeLaws.{CastsMade, CastsHaveWords, CastsInPlace, PartsGiven}

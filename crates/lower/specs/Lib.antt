@@ -1,13 +1,3 @@
-pub mod Numbering
-pub mod CastWays
-pub mod Emit
-pub mod Lowered
-pub mod Steps
-pub mod CallLaws
-pub mod CellLaws
-pub mod FillLaws
-pub mod ReferenceLaws
-pub mod Serving
 pub mod Sets
 pub mod Meanings
 pub mod Storage
@@ -20,3 +10,4 @@ pub mod Keeping
 pub mod Following
 pub mod MadePrograms
 pub mod MergedMeaning
+pub mod MergedProcs

@@ -26,11 +26,11 @@ use Rattle.flat_ir.specs.FlatTally.{flat_tally_in}
 use Rattle.flat_ir.specs.Machine.{first_world}
 use Rattle.flat_ir.specs.Views.{procs_of as flat_procs_of}
 use Rattle.rt_cast.specs.Objects.{HoldsWords}
-use Rattle.lower.specs.declared.served.Served.{Served}
-use Rattle.lower.specs.CastWays.{cast_ways}
+use Rattle.lowered_code.specs.declared.served.Served.{Served}
+use Rattle.lowered_code.specs.CastWays.{cast_ways}
 use Rattle.lower.specs.Keeping.{FitsMeasures, KeepsFlat, PaysFlat}
 use Rattle.lower.specs.Meanings.{Meaning}
-use Rattle.lower.specs.Lowered.{lowered}
+use Rattle.lowered_code.specs.Lowered.{lowered}
 use Rattle.lower.specs.Sets.{with_casts}
 use Rattle.lower.specs.SimulationClaims.{AreCodeAddresses}
 use Rattle.lower.specs.Storage.{Passes}

@@ -22,8 +22,8 @@ use Rattle.coer_core.specs.TurnPrices.{merged_prices}
 use Rattle.rt_cast.specs.Carried.{IsLow}
 use Rattle.rt_cast.specs.Procs.{Stand}
 use Rattle.rt_cast.specs.WholeObjects.{Wholes}
-use Rattle.lower.specs.CallLaws.{Resumes}
-use Rattle.lower.specs.Emit.{cast_word}
+use Rattle.reference_laws.specs.CallLaws.{Resumes}
+use Rattle.lowered_code.specs.Emit.{cast_word}
 use Rattle.lower.specs.Meanings.{Meaning}
 use Rattle.object_layout.specs.Kinds.{kind_number}
 use Rattle.object_layout.specs.declared.kinds.Kind.TheVariants.{Closure, Proxy, Tuple as TupleKind, Boxed, Vector}

@@ -20,11 +20,11 @@ use Rattle.coercion_norm.specs.Held.{Layout}
 use Rattle.lower.specs.Meanings.{Meaning}
 use Rattle.rt_cast.specs.States.{heap_of}
 use Rattle.lower.specs.Storage.{Filled}
-use Rattle.lower.specs.declared.numbering.Shape.{Shape}
-use Rattle.lower.specs.declared.served.Served.{Served}
-use Rattle.lower.specs.Numbering.{own_word, local_word, function_offset}
-use Rattle.lower.specs.Emit.{Then, ToCaller, Into, emit}
-use Rattle.lower.specs.Lowered.{show_by}
+use Rattle.lowered_code.specs.declared.numbering.Shape.{Shape}
+use Rattle.lowered_code.specs.declared.served.Served.{Served}
+use Rattle.lowered_code.specs.Numbering.{own_word, local_word, function_offset}
+use Rattle.lowered_code.specs.Emit.{Then, ToCaller, Into, emit}
+use Rattle.lowered_code.specs.Lowered.{show_by}
 use Rattle.lower.specs.CarriedValues.{IsGroup, IsCarried, AreCarried, CellsHeld}
 
 -- done so often, a code and what stands behind the branches around it come to another code and what is left there

@@ -34,9 +34,9 @@ use Rattle.cast_modes.specs.ValueSteps.{decision_wraps}
 use Rattle.flat_ir.specs.Machine.{FlatCode, FlatValue, FlatValues, FlatFocus, FlatFrame, FlatStore, FlatAfter, Inside}
 use Rattle.flat_ir.specs.Machine.{locals_of}
 use Rattle.flat_ir.specs.Machine.{flat_turn, flat_cast, flat_proj, flat_operate, flat_arity, flat_entered}
-use Rattle.lower.specs.declared.served.Served.{Served}
-use Rattle.lower.specs.CastWays.{way_at, in_place}
-use Rattle.lower.specs.Emit.{cast_word}
+use Rattle.lowered_code.specs.declared.served.Served.{Served}
+use Rattle.lowered_code.specs.CastWays.{way_at, in_place}
+use Rattle.lowered_code.specs.Emit.{cast_word}
 use Rattle.lower.specs.Meanings.{Meaning}
 use Rattle.low_ir.specs.Frames.{stack_room}
 use Rattle.rt_cast.specs.States.{Heap, heap_of}

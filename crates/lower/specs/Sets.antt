@@ -1,18 +1,13 @@
--- Sets of procedures that serve, and that of the merged scheme.
-use Rattle.std.specs.Prelude.{ℕ, suc, ◌+◌, ◌≡◌, true, false, List, [], ◌++◌, length, Some, slice_get}
+-- Sets of procedures that serve.
+use Rattle.std.specs.Prelude.{ℕ, suc, ◌+◌, ◌≡◌, true, false, List, [], length, Some, slice_get}
 use Rattle.low_ir.specs.Procedures.{Proc}
 use Rattle.low_ir.specs.Closed.{each_closed}
 use Rattle.low_ir.specs.Counting.{any_calls}
-use Rattle.rt_cast.specs.declared.numbers.CastProc.TheVariants.{Cast, Project}
-use Rattle.rt_cast.specs.ProcNumbers.{cast_proc_number}
-use Rattle.rt_cast.specs.Procs.{cast_procs, how_many_cast_procs}
-use Rattle.rt_refs.specs.declared.numbers.RefProc.TheVariants.{Apply, Read, Write, Fill, Multiply, Divide}
-use Rattle.rt_refs.specs.RefProcs.{ref_procs, ref_place}
-use Rattle.lower.specs.declared.served.CastWay.{CastWay}
-use Rattle.lower.specs.declared.served.ProcSet.{ProcSet}
-use Rattle.lower.specs.declared.served.Served.{Served}
+use Rattle.lowered_code.specs.declared.served.CastWay.{CastWay}
+use Rattle.lower.specs.declared.schemes.ProcSet.{ProcSet}
+use Rattle.lowered_code.specs.declared.served.Served.{Served}
 use Rattle.grift_base.specs.declared.environment.TheConstants.{REGION_OUT_CALL, STACK_OUT_CALL}
-use Rattle.lower.specs.Serving.{Serve}
+use Rattle.lowered_code.specs.Serving.{Serve}
 
 -- the procedures of a set stand in a program, numbered from a first number on
 abbrev pub StandFrom : List Proc → ℕ → List Proc → Type 0
@@ -60,25 +55,3 @@ numbers_of set = record (numbered_from set.cast set.multiply set.divide) {
 -- the same numbers, with the words of casts and how these are made
 abbrev pub with_casts : Served → List ℕ → List CastWay → Served
 with_casts numbers words ways = record numbers { cast_at = words; ways = ways }
-
--- ---- the merged scheme
-
--- Casts and what they call; apply, read, write, fill and its loop; products and quotients. They are numbered from the
--- first on.
-abbrev pub merged_procs : ℕ → List Proc
-merged_procs first = cast_procs first ++ ref_procs (how_many_cast_procs + first) (cast_proc_number Cast first)
-
--- the numbers of those that code calls
-abbrev pub merged_numbers : ℕ → Served
-merged_numbers first = record {
-  cast = cast_proc_number Cast first;
-  project = cast_proc_number Project first;
-  apply = how_many_cast_procs + ref_place Apply + first;
-  read = how_many_cast_procs + ref_place Read + first;
-  write = how_many_cast_procs + ref_place Write + first;
-  fill = how_many_cast_procs + ref_place Fill + first;
-  multiply = how_many_cast_procs + ref_place Multiply + first;
-  divide = how_many_cast_procs + ref_place Divide + first;
-  cast_at = [];
-  ways = [];
-}

@@ -11,8 +11,8 @@ use Rattle.coercion_norm.specs.Held.{Layout}
 use Rattle.cast_modes.specs.Counting.{Counts}
 use Rattle.rt_cast.specs.States.{Placed, Filled}
 use Rattle.rt_cast.specs.ToldRows.{IsFilled}
-use Rattle.lower.specs.declared.served.Served.{Served}
-use Rattle.lower.specs.Lowered.{lowered}
+use Rattle.lowered_code.specs.declared.served.Served.{Served}
+use Rattle.lowered_code.specs.Lowered.{lowered}
 
 -- what a group captures and how many functions it has is counted by numbers of 32 bits, and one more than the first
 abbrev pub AreNarrow : List FlatProc → Type 0

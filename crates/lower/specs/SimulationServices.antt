@@ -8,7 +8,7 @@ use Rattle.machine_words.specs.Arithmetic.{signed_of, word_of}
 use Rattle.low_ir.specs.Procedures.{Proc}
 use Rattle.low_ir.specs.Run.{Setting, LowState}
 use Rattle.rt_refs.specs.Answering.{AnswersFor, TrapsFor}
-use Rattle.lower.specs.declared.served.Served.{Served}
+use Rattle.lowered_code.specs.declared.served.Served.{Served}
 
 -- a procedure has this number, takes so many words, and has no more than those that serve may have
 pub record StandsAs (setting : Setting) (number : ℕ) (p : Proc) (params : ℕ) : Type 0 where

@@ -1,20 +1,9 @@
-//! From first-order procedures to procedures over words, whatever run-time procedures serve them; and what the
-//! procedures of calls, reads, writes and new vectors come to beside those of casts.
+//! Schemes of casts: what stands in memory for casts and which procedures serve lowered programs, what these owe, and
+//! that the run over words follows the run of the numbered procedures for every scheme; the scheme of the merged mode,
+//! in which a value has one proxy at most, and the program over words that is made with it.
 #![tactic(auto)]
 
-mod answers;
-mod bodies;
-mod casts;
-pub mod copies;
-mod groups;
 pub mod laws;
-pub mod lowering;
 pub mod merged;
-pub mod numbering;
-mod operands;
-mod operations;
-pub mod reference_laws;
 pub mod schemes;
-pub mod served;
 pub mod simulation_laws;
-mod steps;

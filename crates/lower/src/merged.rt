@@ -7,13 +7,11 @@ ghost use Rattle.coercion_norm.specs.CastRows.{row_casts};
 ghost use Rattle.coercion_norm.specs.Statics.{AreStatics};
 ghost use Rattle.flat_ir.specs.Views.{procs_of as flat_procs_of};
 ghost use Rattle.low_ir.specs.Views.{procs_of};
-ghost use Rattle.lower.specs.Serving.{all_narrow};
+ghost use Rattle.lowered_code.specs.Serving.{all_narrow};
 ghost use Rattle.lower.specs.MadePrograms.{HasProcs, StaysClosed};
-ghost use Rattle.lower.specs.Sets.{merged_numbers, merged_procs};
+ghost use Rattle.lower.specs.MergedProcs.{merged_numbers, merged_procs};
 
-use crate::copies::push_copies;
-use crate::schemes::{Scheme, lower_over};
-use crate::served::ProcSet;
+use crate::schemes::{ProcSet, Scheme, lower_over};
 use coercion_norm::cast_rows::CastRows;
 use coercion_norm::placing::place_rows;
 use coercion_norm::tables::CoercionTable;
@@ -21,6 +19,7 @@ use flat_ir::programs::FlatProgram;
 use grift_base::lists::OutOfMemory;
 use grift_base::words::Statics;
 use low_ir::programs::{LowProcs, LowProgram};
+use lowered_code::copies::push_copies;
 use machine_words::FIRST_ADDRESS;
 use machine_words::words::are_words;
 use rt_cast::numbers::{CAST_PROCS, CastProc};
@@ -48,7 +47,7 @@ fn merged_procs(alloc: Global, first: u32) -> Result<LowProcs, OutOfMemory>
 impl Scheme for Merged {
     ghost use Rattle.coer_core.specs.Programs.{HaveCoercions};
     ghost use Rattle.lower.specs.MergedMeaning.{merged_layout, merged_meaning};
-    ghost use Rattle.lower.specs.Sets.{merged_numbers, merged_procs};
+    ghost use Rattle.lower.specs.MergedProcs.{merged_numbers, merged_procs};
 
     ghost meaning = { λ _. merged_meaning };
 

@@ -16,19 +16,15 @@ ghost use Rattle.flat_ir.specs.Views.{procs_of as flat_procs_of};
 ghost use Rattle.low_ir.specs.Closed.{is_closed};
 ghost use Rattle.low_ir.specs.Procedures.{Proc};
 ghost use Rattle.low_ir.specs.Views.{procs_of};
-ghost use Rattle.lower.specs.declared.served.Served.{Served};
-ghost use Rattle.lower.specs.CastWays.{cast_ways};
+ghost use Rattle.lowered_code.specs.declared.served.Served.{Served};
+ghost use Rattle.lowered_code.specs.CastWays.{cast_ways};
 ghost use Rattle.lower.specs.Following.{ServesEverywhere};
-ghost use Rattle.lower.specs.Lowered.{lowered};
+ghost use Rattle.lowered_code.specs.Lowered.{lowered};
 ghost use Rattle.lower.specs.MadePrograms.{HasProcs, MadeFollows, MadeKeeps, StaticsServe, StaysClosed};
 ghost use Rattle.lower.specs.Meanings.{Meaning, MeaningLaws};
-ghost use Rattle.lower.specs.Serving.{all_narrow};
+ghost use Rattle.lowered_code.specs.Serving.{all_narrow};
 ghost use Rattle.lower.specs.Sets.{GiveUpNowhere, ServesAnywhere, numbers_of, with_casts};
 
-use crate::casts::cast_ways;
-use crate::copies::push_copies;
-use crate::lowering::lowered;
-use crate::served::{ProcSet, Served};
 use coercion_norm::cast_rows::CastRows;
 use coercion_norm::tables::CoercionTable;
 use flat_ir::programs::{FlatProcs, FlatProgram};
@@ -36,6 +32,10 @@ use grift_base::lists::OutOfMemory;
 use grift_base::made::both;
 use grift_base::words::{Statics, WordList};
 use low_ir::programs::{LowProcs, LowProgram};
+use lowered_code::casts::cast_ways;
+use lowered_code::copies::push_copies;
+use lowered_code::lowering::lowered;
+use lowered_code::served::Served;
 use machine_words::FIRST_ADDRESS;
 use std::alloc::Global;
 use type_graph::rows::Row;
@@ -43,6 +43,20 @@ use type_graph::tables::TypeTable;
 
 // No program has more procedures than this in front of those that serve.
 const MOST_PROCS: u64 = 2_147_483_646;
+
+/// Procedures that serve, and the numbers of those that code calls.
+#[derive(Drop)]
+pub struct ProcSet {
+    pub procs: LowProcs,
+    pub cast: u32,
+    pub project: u32,
+    pub apply: u32,
+    pub read: u32,
+    pub write: u32,
+    pub fill: u32,
+    pub multiply: u32,
+    pub divide: u32,
+}
 
 /// A way to make casts, and what else isn't done in place.
 pub trait Scheme {

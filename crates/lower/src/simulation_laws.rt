@@ -1,10 +1,7 @@
 //! The run over words follows the run of numbered procedures, and keeps within its account. A function here does
 //! nothing: its contract is a law, proved for all programs.
 
-ghost use Rattle.lower.specs.Following.{WordsFollow, WordsFollowBy, WordsKeep};
-ghost use Rattle.lower.specs.MergedMeaning.{merged_meaning};
-ghost use Rattle.lower.specs.Sets.{merged_numbers, merged_procs};
-ghost use Rattle.lower.specs.SimulationClaims.{RegionIsRow, StorageIsWhole};
+ghost use Rattle.lower.specs.Following.{WordsFollow, WordsKeep};
 
 use crate::schemes::Scheme;
 
@@ -28,10 +25,3 @@ pub fn words_keep_the_account<S: Scheme>(scheme: &S)
 {
     scheme.serves();
 }
-
-/// So it is in the merged mode, where a value has one proxy at most, with one coercion. At each moment of the run over
-/// words whole objects fill the region up to the allocation word, and are a row without gaps for a walk of it.
-pub fn words_follow_procedures()
-    ensures storage { WordsFollowBy StorageIsWhole merged_meaning merged_procs merged_numbers }
-    ensures rows { WordsFollowBy RegionIsRow merged_meaning merged_procs merged_numbers }
-{}

@@ -33,12 +33,13 @@ use Rattle.coer_core.specs.TurnPrices.{piled_prices}
 use Rattle.flat_ir.specs.Machine.{FlatValue, FlatFrame, FlatStore, flat_arity, flat_cast}
 use Rattle.low_ir.specs.Codes.{either}
 use Rattle.rt_cast.specs.States.{Heap, Placed, heap_of}
-use Rattle.lower.specs.declared.served.CastWay.TheVariants.{Called}
-use Rattle.lower.specs.CastWays.{way_between, cast_way, cast_ways, way_at, in_place}
-use Rattle.lower.specs.Emit.{cast_word}
+use Rattle.lowered_code.specs.declared.served.CastWay.TheVariants.{Called}
+use Rattle.lowered_code.specs.CastWays.{way_between, cast_way, cast_ways, way_at, in_place}
+use Rattle.lowered_code.specs.Emit.{cast_word}
 use Rattle.lower.specs.SchemeLaws.{Here, ReturnsAt, After, Aim, StopsNow, cast_leaves}
 use Rattle.lower.specs.Storage.{Filled}
-use Rattle.lower.proofs.Public.{AreSmall, stored_words, bytes_below, filled_more, carried_small, later, cells_later}
+use Rattle.lower.proofs.Public.{AreSmall, stored_words, bytes_below, filled_more, carried_small, later}
+use Rattle.lower.proofs.Public.{cells_later}
 use Rattle.lower.proofs.Public.{cells_below, at, left_of, here, computes, if_true, if_false, builds}
 use Rattle.piled_scheme.specs.Codes.{cast_proc, blame_part}
 use Rattle.piled_scheme.specs.Piling.{IsKnown, PlainType, BoxType, IsPiled, IsBoxCast, IsWrapped, piled_meaning, fate}

@@ -6,7 +6,7 @@ use Rattle.low_ir.specs.Closed.{proc_closed, each_closed}
 use Rattle.rt_refs.specs.FillCodes.{fill_loop, fill_proc}
 use Rattle.rt_refs.specs.Products.{product_loop}
 use Rattle.rt_refs.specs.Quotients.{arithmetic_procs, quotient_loop}
-use Rattle.lower.specs.Serving.{takes, Serve}
+use Rattle.lowered_code.specs.Serving.{takes, Serve}
 use Rattle.lower.specs.Sets.{StandFrom, ServesAnywhere}
 use Rattle.lower.proofs.Public.{serves_anywhere}
 use Rattle.piled_scheme.specs.Codes.{read_proc, write_proc, unbox_proc, set_proc, piled_procs}

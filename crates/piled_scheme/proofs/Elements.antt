@@ -29,7 +29,8 @@ use Rattle.flat_ir.specs.Machine.{FlatValue, FlatFrame, FlatStore, FlatAfter, fl
 use Rattle.rt_cast.specs.States.{Placed}
 use Rattle.lower.specs.CarriedValues.{AreCarried}
 use Rattle.lower.specs.SchemeLaws.{After, operator_leaves, at_or_zero}
-use Rattle.lower.proofs.Public.{positive_is, negative_is, element_past, too_many}
+use Rattle.lower.proofs.Public.{positive_is, negative_is}
+use Rattle.lower.proofs.Public.{element_past, too_many}
 use Rattle.lower.proofs.Public.{at, here, if_false, stores, left_of}
 use Rattle.piled_scheme.specs.Codes.{read_proc, write_proc, in_vector}
 use Rattle.piled_scheme.specs.Piling.{piled_meaning}

@@ -26,14 +26,15 @@ use Rattle.rt_refs.specs.FillCodes.{fill_proc}
 use Rattle.rt_refs.specs.Products.{product_loop, multiply}
 use Rattle.rt_refs.specs.Quotients.{quotient_loop, divide}
 use Rattle.lower.specs.CarriedValues.{CarriedIn, AreCarried}
-use Rattle.lower.specs.CastWays.{cast_ways}
-use Rattle.lower.specs.Emit.{cast_word}
+use Rattle.lowered_code.specs.CastWays.{cast_ways}
+use Rattle.lowered_code.specs.Emit.{cast_word}
 use Rattle.lower.specs.Following.{ServesEverywhere}
 use Rattle.lower.specs.SchemeLaws.{Here, Answers, Serves, Calls, CastsMade, PartsGiven, CellsServed, CallsMade}
 use Rattle.lower.specs.SchemeLaws.{OperatorDone, IsHandedOn, at_or_zero, operator_leaves, part_leaves}
-use Rattle.lower.specs.declared.served.Served.{Served}
+use Rattle.lowered_code.specs.declared.served.Served.{Served}
 use Rattle.lower.specs.Sets.{StandFrom, with_casts}
-use Rattle.lower.proofs.Public.{plainly_lets, products_are_served, stands_as, vectors_are_served}
+use Rattle.lower.proofs.Public.{plainly_lets, vectors_are_served}
+use Rattle.lower.proofs.Public.{products_are_served, stands_as}
 use Rattle.piled_scheme.specs.Codes.{cast_proc, idle_proc, read_proc, write_proc, piled_procs, piled_numbers}
 use Rattle.piled_scheme.specs.Piling.{piled_meaning, ArePiled, IsBoxCast}
 use Rattle.piled_scheme.proofs.Casting.{cast_made, handed_on, known_words, none_in_place}

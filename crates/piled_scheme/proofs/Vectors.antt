@@ -39,7 +39,8 @@ use Rattle.lower.proofs.Public.{as_many}
 use Rattle.lower.proofs.Public.{cell_of, there_is}
 use Rattle.lower.proofs.Public.{stands, may}
 use Rattle.lower.proofs.Public.{word_found, found_within}
-use Rattle.lower.proofs.Public.{positive_is, negative_is, small_fits, element_past}
+use Rattle.lower.proofs.Public.{positive_is, negative_is, small_fits}
+use Rattle.lower.proofs.Public.{element_past}
 use Rattle.lower.proofs.Public.{Comes, Calm, Goal, computes, if_true, if_false, loads, left_of}
 use Rattle.lower.proofs.Public.{lt_true}
 use Rattle.piled_scheme.specs.Codes.{read_proc, in_vector}

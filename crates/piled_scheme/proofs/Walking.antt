@@ -26,7 +26,8 @@ use Rattle.rt_cast.specs.States.{Heap, heap_of}
 use Rattle.low_ir.specs.Codes.{trap_code}
 use Rattle.lower.specs.Storage.{Filled}
 use Rattle.lower.specs.SchemeLaws.{OnWay, StopsNow, Walks}
-use Rattle.lower.proofs.Public.{By, by_go, by_weaken, calls_blame, in_front}
+use Rattle.lower.proofs.Public.{By, by_go, by_weaken}
+use Rattle.lower.proofs.Public.{calls_blame, in_front}
 use Rattle.lower.proofs.Public.{at, Comes, Calm, Goal, left_of, goes_last, lt_true}
 use Rattle.piled_scheme.specs.Piling.{piled_meaning}
 

@@ -10,7 +10,7 @@ use Rattle.object_layout.specs.Words.{kind_mask, count_shift, word_shift}
 use Rattle.rt_refs.specs.CellCodes.{asks_box, asks_length}
 use Rattle.rt_refs.specs.FillCodes.{fill_loop, fill_proc}
 use Rattle.rt_refs.specs.Quotients.{arithmetic_procs}
-use Rattle.lower.specs.declared.served.Served.{Served}
+use Rattle.lowered_code.specs.declared.served.Served.{Served}
 use Rattle.lower.specs.Sets.{numbered_from}
 use Rattle.piled_scheme.specs.Piling.{wrapper_kind, wrapper_header}
 

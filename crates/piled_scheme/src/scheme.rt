@@ -7,8 +7,7 @@ use coercion_norm::placing::place_rows;
 use coercion_norm::tables::CoercionTable;
 use grift_base::lists::OutOfMemory;
 use grift_base::words::Statics;
-use lower::schemes::Scheme;
-use lower::served::ProcSet;
+use lower::schemes::{ProcSet, Scheme};
 use std::alloc::Global;
 use type_graph::tables::TypeTable;
 

@@ -4,7 +4,7 @@ use Rattle.std.proofs.Common.{false, cond, List, [], ◌∷◌, ◌++◌, map, S
 use Rattle.std.proofs.Common.{subst, arith}
 use Rattle.std.specs.Prelude.{◌==◌, slice_get, length, max, min}
 use Rattle.rt_cast.specs.States.{Heap, st, Fine}
-use Rattle.grift_base.specs.Types.{TypeRow, IntRow, BoolRow, UnitRow, DynRow, FunRow, TupleRow, RefRow, VectRow}
+use Rattle.grift_base.specs.Types.{TypeRow}
 use Rattle.grift_base.proofs.Public.{each_row}
 use Rattle.grift_base.specs.Types.{parts_of}
 use Rattle.low_ir.specs.Operations.{compute}

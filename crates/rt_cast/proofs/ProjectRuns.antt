@@ -4,8 +4,8 @@ use Rattle.std.proofs.Common.{List, [], ◌∷◌, map, Option, Some, None, refl
 use Rattle.std.proofs.Common.{length}
 use Rattle.std.specs.Prelude.{◌==◌, nat_lt, slice_get, max, All, pos, ℤ}
 use Rattle.std.proofs.lemmas.List.Elements.{All-head, All-tail}
-use Rattle.grift_base.specs.Types.{TypeHead, TypeRow, TypeRows, IntRow, BoolRow, UnitRow, DynRow, FunRow, TupleRow}
-use Rattle.grift_base.specs.Types.{RefRow, VectRow, is_dyn, parts_of, row_at, tuple_part, dyn_from, dyn_place}
+use Rattle.grift_base.specs.Types.{TypeHead, TypeRow, TypeRows, TupleRow}
+use Rattle.grift_base.specs.Types.{is_dyn, parts_of, row_at, tuple_part, dyn_from, dyn_place}
 use Rattle.grift_base.proofs.Public.{each_row}
 use Rattle.low_ir.specs.declared.code.LowSource.TheVariants.{Word, Number}
 use Rattle.low_ir.specs.declared.code.WordOp.TheVariants.{And}

@@ -1,6 +1,7 @@
 // The procedures of product, quotient and remainder, and all procedures of this crate in order.
 
 ghost use Rattle.std.specs.Prelude.{◌≡◌, ◌+◌, ◌≤◌, ◌^◌, ◌++◌, List, IfOk};
+ghost use Rattle.low_ir.specs.Codes.{Extends, Chooses};
 ghost use Rattle.machine_words.specs.declared.conditions.Cond.TheVariants.{Eq};
 ghost use Rattle.low_ir.specs.declared.code.LowSource.TheVariants.{Number, Word};
 ghost use Rattle.low_ir.specs.Procedures.{Proc, If};
@@ -16,11 +17,12 @@ use crate::cells::{read_proc, write_proc};
 use crate::fills::{fill_loop, fill_proc};
 use crate::numbers::RefProc;
 use grift_base::lists::OutOfMemory;
-use grift_base::made::both;
 use grift_base::verdicts::Trap;
 use low_ir::code::LowSource::{Number, Word};
-use low_ir::code::{LowCode, LowSource, WordOp};
-use low_ir::codes::{CodeResult, choose, compute, proc, set, tail_call, trap, with_proc};
+use low_ir::code::{LowSource, WordOp};
+use low_ir::codes::{
+    CodeResult, answer, choose, compute, done, proc, set, tail_call, trap, with_proc,
+};
 use low_ir::programs::{LowProc, LowProcs};
 use machine_words::conditions::Cond;
 use std::alloc::Global;
@@ -58,12 +60,12 @@ const FIRST_WORDS: [LowSource; 7] = [
 ];
 
 // Where the lowest bit of word 1 is set, word 2 gains word 0.
-fn sum_code(alloc: Global, rest: LowCode) -> Result<LowCode, OutOfMemory>
-    ensures { IfOk result (λ code. code_of code ≡ sum_code (code_of rest)) }
+fn sum_code(alloc: Global, rest: CodeResult) -> CodeResult
+    ensures { Extends rest result sum_code }
 {
-    let gain = compute(alloc, WordOp::Add, 2, (Word(2), Word(0)), LowCode::Done)?;
-    let ways = (LowCode::Done, gain);
-    let rest = choose(alloc, Cond::Eq, (Word(3), Number(0)), ways, rest)?;
+    let gain = compute(alloc, WordOp::Add, 2, (Word(2), Word(0)), done(alloc));
+    let ways = (done(alloc), gain);
+    let rest = choose(alloc, Cond::Eq, (Word(3), Number(0)), ways, rest);
     compute(alloc, WordOp::And, 3, (Word(1), Number(1)), rest)
 }
 
@@ -71,63 +73,73 @@ fn sum_code(alloc: Global, rest: LowCode) -> Result<LowCode, OutOfMemory>
 fn product_loop(alloc: Global, own: u32) -> Result<LowProc, OutOfMemory>
     ensures { IfOk result (λ proc. proc_of proc ≡ product_loop own) }
 {
-    let rest = tail_call(alloc, own, &[Word(0), Word(1), Word(2)])?;
-    let rest = compute(alloc, WordOp::Srl, 1, (Word(1), Number(1)), rest)?;
-    let rest = compute(alloc, WordOp::Sll, 0, (Word(0), Number(1)), rest)?;
-    let rest = sum_code(alloc, rest)?;
-    let ends = (LowCode::Return(Word(2)), LowCode::Done);
-    let code = choose(alloc, Cond::Eq, (Word(1), Number(0)), ends, rest)?;
-    Ok(proc(3, 4, code))
+    let rest = tail_call(alloc, own, &[Word(0), Word(1), Word(2)]);
+    let rest = compute(alloc, WordOp::Srl, 1, (Word(1), Number(1)), rest);
+    let rest = compute(alloc, WordOp::Sll, 0, (Word(0), Number(1)), rest);
+    let rest = sum_code(alloc, rest);
+    let ends = (answer(alloc, Word(2)), done(alloc));
+    proc(
+        3,
+        4,
+        choose(alloc, Cond::Eq, (Word(1), Number(0)), ends, rest),
+    )
 }
 
 // The procedure of a product, told the number of its loop.
 fn multiply(alloc: Global, loop_number: u32) -> Result<LowProc, OutOfMemory>
     ensures { IfOk result (λ proc. proc_of proc ≡ multiply loop_number) }
 {
-    let code = tail_call(alloc, loop_number, &[Word(0), Word(1), Number(0)])?;
-    Ok(proc(2, 2, code))
+    proc(
+        2,
+        2,
+        tail_call(alloc, loop_number, &[Word(0), Word(1), Number(0)]),
+    )
 }
 
 // What is done where a word says that the quotient is asked for, what where it is the remainder, and what behind both.
-fn by_asked(alloc: Global, word: u32, ways: (LowCode, LowCode), rest: LowCode) -> CodeResult
-    ensures { IfOk result (λ code. code_of code ≡ If Eq (Word word) (Number 0) (code_of ways.0) (code_of ways.1)
-        (code_of rest)) }
+fn by_asked(
+    alloc: Global,
+    word: u32,
+    ways: (CodeResult, CodeResult),
+    rest: CodeResult,
+) -> CodeResult
+    ensures { Chooses ways rest result (If Eq (Word word) (Number 0)) }
 {
     let asked = (Word(word), Number(ASKS_QUOTIENT));
     choose(alloc, Cond::Eq, asked, ways, rest)
 }
 
 // The quotient or the remainder, with its sign.
-fn signed_answer(alloc: Global) -> Result<LowCode, OutOfMemory>
-    ensures { IfOk result (λ code. code_of code ≡ signed_answer) }
+fn signed_answer(alloc: Global) -> CodeResult
+    ensures { IfOk result (λ code. code_of code.value ≡ signed_answer) }
 {
-    let turned = compute(alloc, WordOp::Sub, 2, (Number(0), Word(2)), LowCode::Done)?;
-    let ways = (turned, LowCode::Done);
-    let end = LowCode::Return(Word(2));
+    let turned = compute(alloc, WordOp::Sub, 2, (Number(0), Word(2)), done(alloc));
+    let ways = (turned, done(alloc));
+    let end = answer(alloc, Word(2));
     let rest = choose(alloc, Cond::Lt, (Word(5), Number(0)), ways, end);
-    let (quotient, rest) = both(set(alloc, 2, Word(3), LowCode::Done), rest)?;
-    by_asked(alloc, 6, (quotient, LowCode::Done), rest)
+    let quotient = set(alloc, 2, Word(3), done(alloc));
+    by_asked(alloc, 6, (quotient, done(alloc)), rest)
 }
 
 // Where the remainder has grown to the divisor it loses it, and the quotient gains one.
-fn subtract_code(alloc: Global, rest: LowCode) -> Result<LowCode, OutOfMemory>
-    ensures { IfOk result (λ code. code_of code ≡ subtract_code (code_of rest)) }
+fn subtract_code(alloc: Global, rest: CodeResult) -> CodeResult
+    ensures { Extends rest result subtract_code }
 {
-    let gain = compute(alloc, WordOp::Add, 3, (Word(3), Number(1)), LowCode::Done)?;
-    let lose = compute(alloc, WordOp::Sub, 2, (Word(2), Word(1)), gain)?;
-    let ways = (LowCode::Done, lose);
+    let gain = compute(alloc, WordOp::Add, 3, (Word(3), Number(1)), done(alloc));
+    let lose = compute(alloc, WordOp::Sub, 2, (Word(2), Word(1)), gain);
+    let ways = (done(alloc), lose);
     choose(alloc, Cond::Ltu, (Word(2), Word(1)), ways, rest)
 }
 
 // The next bit of the dividend goes to the remainder.
-fn next_bit(alloc: Global, rest: LowCode) -> Result<LowCode, OutOfMemory>
-    ensures { IfOk result (λ code. code_of code ≡ next_bit (code_of rest)) }
+fn next_bit(alloc: Global, rest: CodeResult) -> CodeResult
+    ensures { Extends rest result next_bit }
 {
-    let rest = compute(alloc, WordOp::Sll, 3, (Word(3), Number(1)), rest)?;
-    let rest = compute(alloc, WordOp::Add, 2, (Word(2), Word(7)), rest)?;
-    let rest = compute(alloc, WordOp::Sll, 2, (Word(2), Number(1)), rest)?;
-    let rest = compute(alloc, WordOp::And, 7, (Word(7), Number(1)), rest)?;
-    let rest = compute(alloc, WordOp::Srl, 7, (Word(0), Word(4)), rest)?;
+    let rest = compute(alloc, WordOp::Sll, 3, (Word(3), Number(1)), rest);
+    let rest = compute(alloc, WordOp::Add, 2, (Word(2), Word(7)), rest);
+    let rest = compute(alloc, WordOp::Sll, 2, (Word(2), Number(1)), rest);
+    let rest = compute(alloc, WordOp::And, 7, (Word(7), Number(1)), rest);
+    let rest = compute(alloc, WordOp::Srl, 7, (Word(0), Word(4)), rest);
     compute(alloc, WordOp::Sub, 4, (Word(4), Number(1)), rest)
 }
 
@@ -135,44 +147,47 @@ fn next_bit(alloc: Global, rest: LowCode) -> Result<LowCode, OutOfMemory>
 fn quotient_loop(alloc: Global, own: u32) -> Result<LowProc, OutOfMemory>
     ensures { IfOk result (λ proc. proc_of proc ≡ quotient_loop own) }
 {
-    let rest = tail_call(alloc, own, &LOOP_WORDS)?;
-    let rest = next_bit(alloc, subtract_code(alloc, rest)?);
-    let (answer, rest) = both(signed_answer(alloc), rest)?;
-    let ends = (answer, LowCode::Done);
-    let code = choose(alloc, Cond::Eq, (Word(4), Number(0)), ends, rest)?;
-    Ok(proc(7, 8, code))
+    let rest = tail_call(alloc, own, &LOOP_WORDS);
+    let rest = next_bit(alloc, subtract_code(alloc, rest));
+    let ends = (signed_answer(alloc), done(alloc));
+    proc(
+        7,
+        8,
+        choose(alloc, Cond::Eq, (Word(4), Number(0)), ends, rest),
+    )
 }
 
 // A word without its sign.
-fn magnitude(alloc: Global, word: u32, of: u32, rest: LowCode) -> Result<LowCode, OutOfMemory>
-    ensures { IfOk result (λ code. code_of code ≡ magnitude_code word of (code_of rest)) }
+fn magnitude(alloc: Global, word: u32, of: u32, rest: CodeResult) -> CodeResult
+    ensures { Extends rest result (magnitude_code word of) }
 {
     let minus = (Number(0), Word(of));
-    let turned = compute(alloc, WordOp::Sub, word, minus, LowCode::Done);
-    let ways = both(turned, set(alloc, word, Word(of), LowCode::Done))?;
+    let turned = compute(alloc, WordOp::Sub, word, minus, done(alloc));
+    let ways = (turned, set(alloc, word, Word(of), done(alloc)));
     choose(alloc, Cond::Lt, (Word(of), Number(0)), ways, rest)
 }
 
 // The sign of the answer, and the call of the loop.
-fn signs(alloc: Global, loop_number: u32) -> Result<LowCode, OutOfMemory>
-    ensures { IfOk result (λ code. code_of code ≡ sign_code loop_number) }
+fn signs(alloc: Global, loop_number: u32) -> CodeResult
+    ensures { IfOk result (λ code. code_of code.value ≡ sign_code loop_number) }
 {
-    let quotient = compute(alloc, WordOp::Xor, 5, (Word(0), Word(1)), LowCode::Done);
-    let ways = both(quotient, set(alloc, 5, Word(0), LowCode::Done));
-    let (ways, rest) = both(ways, tail_call(alloc, loop_number, &FIRST_WORDS))?;
-    by_asked(alloc, 2, ways, rest)
+    let quotient = compute(alloc, WordOp::Xor, 5, (Word(0), Word(1)), done(alloc));
+    let ways = (quotient, set(alloc, 5, Word(0), done(alloc)));
+    by_asked(alloc, 2, ways, tail_call(alloc, loop_number, &FIRST_WORDS))
 }
 
 // The procedure of quotient and remainder, told the number of its loop.
 fn divide(alloc: Global, loop_number: u32) -> Result<LowProc, OutOfMemory>
     ensures { IfOk result (λ proc. proc_of proc ≡ divide loop_number) }
 {
-    let rest = magnitude(alloc, 4, 1, signs(alloc, loop_number)?)?;
+    let rest = magnitude(alloc, 4, 1, signs(alloc, loop_number));
     let rest = magnitude(alloc, 3, 0, rest);
-    let (trapped, rest) = both(trap(alloc, Trap::ZeroDivisor, 3, 4), rest)?;
-    let ways = (trapped, LowCode::Done);
-    let code = choose(alloc, Cond::Eq, (Word(1), Number(0)), ways, rest)?;
-    Ok(proc(3, 8, code))
+    let ways = (trap(alloc, Trap::ZeroDivisor, 3, 4), done(alloc));
+    proc(
+        3,
+        8,
+        choose(alloc, Cond::Eq, (Word(1), Number(0)), ways, rest),
+    )
 }
 
 /// The procedures of products and quotients, numbered from `first` on, go last.

@@ -19,8 +19,9 @@ use Rattle.rt_cast.proofs.Public.{dyn_still, small_fits}
 use Rattle.lower.specs.Storage.{Filled}
 use Rattle.flat_ir.specs.Bodies.{Proc}
 use Rattle.flat_ir.specs.Machine.{FlatValue, FlatValues, FlatStore, or_unit}
-use Rattle.lower.specs.Numbering.{function_offset}
-use Rattle.lower.specs.CarriedValues.{IsGroup, Under, Bare, CarriedIn, IsCarried, AreCarried, CellsFrom, CellsHeld}
+use Rattle.lowered_code.specs.Numbering.{function_offset}
+use Rattle.lower.specs.CarriedValues.{IsGroup, Under, Bare, CarriedIn, IsCarried, AreCarried, CellsFrom}
+use Rattle.lower.specs.CarriedValues.{CellsHeld}
 use Rattle.lower.proofs.heap.Objects.{none_some, object_kept, AreSmall, words_same, header_room}
 use Rattle.lower.proofs.heap.Filled.{there_later, stands}
 use Rattle.lower.specs.Meanings.{Meaning, MeaningLaws}

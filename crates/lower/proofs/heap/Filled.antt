@@ -13,7 +13,8 @@ use Rattle.rt_cast.specs.States.{Placed}
 use Rattle.rt_cast.specs.States.{Heap}
 use Rattle.lower.specs.Storage.{Filled}
 use Rattle.lower.specs.Meanings.{Meaning}
-use Rattle.lower.proofs.heap.Objects.{none_some, object_kept, found_within, holds_found, word_found, holds_same}
+use Rattle.lower.proofs.heap.Objects.{none_some, object_kept, found_within, holds_found, word_found}
+use Rattle.lower.proofs.heap.Objects.{holds_same}
 use Rattle.lower.proofs.heap.Objects.{holds_append, bytes_append, header_held, header_room}
 
 pub may : (top at : ℕ) → at % 8 ≡ 0 → 65536 ≤ at → at + 8 ≤ top → may_load top at ≡ true

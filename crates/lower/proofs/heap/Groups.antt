@@ -9,7 +9,7 @@ use Rattle.coercion_norm.specs.Objects.{Object, Fixed, bytes_of_all, object_at}
 use Rattle.rt_cast.specs.Objects.{HoldsWords, Holds}
 use Rattle.coercion_norm.specs.Held.{Layout, There}
 use Rattle.lower.specs.Meanings.{Meaning, MeaningLaws, IsOwn}
-use Rattle.lower.specs.Numbering.{function_offset}
+use Rattle.lowered_code.specs.Numbering.{function_offset}
 use Rattle.lower.proofs.heap.Objects.{words_split, bytes_append, closure_header}
 use Rattle.lower.proofs.words.Operations.{added_there}
 

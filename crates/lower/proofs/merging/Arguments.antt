@@ -24,13 +24,13 @@ use Rattle.rt_cast.specs.MergedValues.{Merged, Solid}
 use Rattle.rt_cast.specs.States.{Placed, Heap}
 use Rattle.rt_refs.specs.Arguments.{handed, word_or_zero}
 use Rattle.lower.specs.CarriedValues.{AreCarried}
-use Rattle.lower.specs.Emit.{cast_word}
+use Rattle.lowered_code.specs.Emit.{cast_word}
 use Rattle.lower.specs.MergedMeaning.{merged_meaning, WrapsKind}
 use Rattle.lower.specs.SchemeLaws.{at_or_zero}
 use Rattle.lower.specs.Storage.{Filled}
 use Rattle.lower.proofs.heap.CarriedLater.{function_there}
 use Rattle.lower.proofs.heap.Objects.{none_some, same_some, closure_header}
-use Rattle.lower.proofs.merging.Laws.{merged_laws}
+use Rattle.lower.proofs.merging.MeaningLaws.{merged_laws}
 use Rattle.lower.proofs.merging.Like.{Like, like_of, like_back}
 
 -- ---- the casts of a function's coercion

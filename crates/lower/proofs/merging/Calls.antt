@@ -36,25 +36,27 @@ use Rattle.rt_cast.specs.Procs.{Stand, how_many_cast_procs}
 use Rattle.rt_cast.specs.States.{Placed, IsReady, Grows, Fine, Heap, Filled as RtFilled, around, heap_of}
 use Rattle.rt_refs.specs.Arguments.{handed}
 use Rattle.rt_refs.specs.CallCodes.{apply_proc}
-use Rattle.lower.specs.CallLaws.{AtArgument, CastInTurn, Resumes, where_comes}
-use Rattle.lower.specs.CallLaws.{CallsAt as RtCallsAt}
+use Rattle.reference_laws.specs.CallLaws.{AtArgument, CastInTurn, Resumes, where_comes}
+use Rattle.reference_laws.specs.CallLaws.{CallsAt as RtCallsAt}
 use Rattle.rt_refs.specs.declared.numbers.RefProc.TheVariants.{Apply}
 use Rattle.rt_refs.specs.RefProcs.{Stand as RefsStand, ref_place}
-use Rattle.lower.proofs.references.OverObjects.{calls_are_made, answers_are_cast}
-use Rattle.lower.specs.declared.served.Served.{Served}
+use Rattle.reference_laws.proofs.Public.{calls_are_made, answers_are_cast}
+use Rattle.lowered_code.specs.declared.served.Served.{Served}
 use Rattle.lower.specs.CarriedValues.{CarriedIn, AreCarried}
 use Rattle.lower.specs.Keeping.{FitsMeasures}
 use Rattle.lower.specs.MergedMeaning.{merged_meaning, merged_resumes, WrapsKind}
-use Rattle.lower.specs.SchemeLaws.{Here, StopsNow, Aim, After, Goes, Serves, Answers, Calls, CallsAt, CallsMade}
+use Rattle.lower.specs.SchemeLaws.{Here, StopsNow, Aim, After, Goes, Serves, Answers, Calls, CallsAt}
+use Rattle.lower.specs.SchemeLaws.{CallsMade}
 use Rattle.lower.specs.SchemeLaws.{call_leaves, resumed_leaves}
 use Rattle.lower.proofs.heap.Objects.{closure_header}
 use Rattle.lower.proofs.heap.CarriedLater.{later, cells_later, cells_below}
-use Rattle.lower.proofs.merging.Arguments.{AllNormal, of_function, pendings, all_cast, onto_before, handed_is, AllLike}
+use Rattle.lower.proofs.merging.Arguments.{AllNormal, of_function, pendings, all_cast, onto_before, handed_is}
+use Rattle.lower.proofs.merging.Arguments.{AllLike}
 use Rattle.lower.proofs.merging.Arguments.{onto_like, all_back, CodeAt, all_like, called}
 use Rattle.lower.proofs.merging.Bounds.{cast_fits}
 use Rattle.lower.proofs.merging.Chains.{Comes as ChainComes, comes_stands as chain_stands, Walking, cast_answers}
 use Rattle.lower.proofs.merging.Chains.{stuck_or_not, gives_some, blames_some}
-use Rattle.lower.proofs.merging.Laws.{merged_laws}
+use Rattle.lower.proofs.merging.MeaningLaws.{merged_laws}
 use Rattle.lower.proofs.merging.Like.{Like, solid_head, head_at, like_of, like_wrapped}
 use Rattle.lower.proofs.merging.Stages.{HasRoom, Calm, Stands, Stage, Settled, at_end, begun, settled_calm, calm_as}
 use Rattle.lower.proofs.merging.Stages.{stays, lands, by_law, by_law_from}

@@ -29,9 +29,9 @@ use Rattle.rt_cast.specs.MergedValues.{Merged, Outcome, Stuck, cast_value}
 use Rattle.rt_cast.specs.Procs.{Stand, cast_proc}
 use Rattle.rt_cast.specs.States.{Placed, IsReady, Filled as RtFilled, OnTheWay, Within, heap_of}
 use Rattle.rt_cast.proofs.Public.{casts_are_made, light_casts_are_cheap}
-use Rattle.lower.specs.declared.served.Served.{Served}
+use Rattle.lowered_code.specs.declared.served.Served.{Served}
 use Rattle.lower.specs.CarriedValues.{CarriedIn}
-use Rattle.lower.specs.Emit.{cast_word}
+use Rattle.lowered_code.specs.Emit.{cast_word}
 use Rattle.lower.specs.Keeping.{FitsMeasures}
 use Rattle.lower.specs.MergedMeaning.{merged_meaning, MergedCasts}
 use Rattle.lower.specs.SchemeLaws.{Here, Answers, CastsMade, CastsHaveWords, cast_leaves}
@@ -39,7 +39,7 @@ use Rattle.lower.proofs.heap.Objects.{none_some, same_some}
 use Rattle.lower.proofs.merging.Bounds.{cast_fits}
 use Rattle.lower.proofs.merging.Chains.{begun_by}
 use Rattle.lower.proofs.merging.Chains.{Walking, cast_answers}
-use Rattle.lower.proofs.merging.Laws.{held_later}
+use Rattle.lower.proofs.merging.MeaningLaws.{held_later}
 use Rattle.lower.proofs.merging.Like.{Like, solid_head, like_of}
 use Rattle.lower.proofs.words.Standing.{stands_as}
 use Rattle.lower.proofs.merging.States.{filled_of}

@@ -15,16 +15,16 @@ use Rattle.rt_refs.specs.FillCodes.{fill_proc}
 use Rattle.rt_refs.specs.declared.numbers.RefProc.{RefProc}
 use Rattle.rt_refs.specs.declared.numbers.RefProc.TheVariants.{Read, Write, Fill, FillLoop}
 use Rattle.rt_refs.specs.RefProcs.{Stand as RefsStand, ref_procs, ref_place, ref_proc_number}
-use Rattle.lower.specs.declared.served.Served.{Served}
+use Rattle.lowered_code.specs.declared.served.Served.{Served}
 use Rattle.lower.specs.Keeping.{FitsMeasures}
 use Rattle.lower.specs.MergedMeaning.{merged_meaning, MergedCasts}
 use Rattle.lower.specs.SchemeLaws.{CellsServed}
 use Rattle.lower.specs.SimulationServices.{StandsAs}
 use Rattle.lower.proofs.words.Standing.{stands_as}
-use Rattle.lower.proofs.merging.Laws.{merged_laws}
-use Rattle.lower.proofs.merging.Reads.{merged_reads, merged_unboxes, merged_measures}
-use Rattle.lower.proofs.merging.Writes.{merged_writes, merged_sets}
-use Rattle.lower.proofs.simulation.Fills.{plainly_lets, vectors_are_served}
+use Rattle.lower.proofs.merging.MeaningLaws.{merged_laws}
+use Rattle.lower.proofs.merging.Reading.{merged_reads, merged_unboxes, merged_measures}
+use Rattle.lower.proofs.merging.Writing.{merged_writes, merged_sets}
+use Rattle.lower.proofs.merging.Fills.{plainly_lets, vectors_are_served}
 
 -- Behind the procedures for casts stand those for calls, reads, writes and vectors.
 module _ (setting : Setting) (l : Layout) (procs : List Proc) (casts : List TypeCast) (m : Measures)

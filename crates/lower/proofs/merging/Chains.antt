@@ -34,7 +34,7 @@ use Rattle.lower.specs.MergedMeaning.{merged_meaning}
 use Rattle.lower.specs.SchemeLaws.{Here, StopsNow, After, Goes, Returns, ReturnsAt, Aim}
 use Rattle.lower.proofs.heap.CarriedLater.{cells_later, cells_below}
 use Rattle.lower.proofs.merging.Bounds.{Fits}
-use Rattle.lower.proofs.merging.Laws.{merged_laws}
+use Rattle.lower.proofs.merging.MeaningLaws.{merged_laws}
 use Rattle.lower.proofs.merging.Like.{Like, solid_head, like_back, KnownUnder}
 use Rattle.lower.proofs.merging.Stages.{HasRoom, Calm, Stands, Stage, at_end, Settled, settled_calm, Begun, begun}
 use Rattle.lower.proofs.merging.Stages.{by_law}

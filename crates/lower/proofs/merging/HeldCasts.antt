@@ -23,7 +23,7 @@ use Rattle.coercion_norm.specs.declared.cast_rows.CastRow.{CastRow}
 use Rattle.coercion_norm.proofs.Public.{cast_no_wider, coerce_no_higher, coerce_normal}
 use Rattle.coer_core.proofs.Public.{no_wider}
 use Rattle.coer_core.specs.Programs.{HaveCoercions, cast_height, tallest_of}
-use Rattle.lower.specs.Emit.{cast_word}
+use Rattle.lowered_code.specs.Emit.{cast_word}
 use Rattle.lower.specs.MadePrograms.{StaticsServe}
 use Rattle.lower.specs.MergedMeaning.{MergedCasts, merged_layout, merged_meaning, width_of}
 

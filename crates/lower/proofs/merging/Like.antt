@@ -28,7 +28,7 @@ use Rattle.lower.specs.MergedMeaning.{merged_meaning, WrapsKind}
 use Rattle.lower.specs.Storage.{Filled}
 use Rattle.lower.proofs.heap.CarriedLater.{later, function_there, carried_small}
 use Rattle.lower.proofs.heap.Objects.{none_some, same_some, tuple_header, vector_header, box_header}
-use Rattle.lower.proofs.merging.Laws.{merged_laws, kind_later}
+use Rattle.lower.proofs.merging.MeaningLaws.{merged_laws, kind_later}
 use Rattle.lower.proofs.words.Arithmetic.{header_is}
 use Rattle.std.proofs.Common.{nat_eq, eqb-true, eq-eqb}
 use Rattle.cast_modes.specs.RunValues.{NoRunValues, RunValueThen, row_list}

@@ -41,7 +41,7 @@ use Rattle.rt_cast.specs.PartValues.{part_value, dyn_part_value, dyn_part_by, wi
 use Rattle.rt_cast.specs.Procs.{Stand, project_proc}
 use Rattle.rt_cast.specs.States.{Placed, OnTheWay, Within, heap_of}
 use Rattle.rt_cast.proofs.Public.{parts_of_tuples_are_answered, parts_in_dyn_are_answered}
-use Rattle.lower.specs.declared.served.Served.{Served}
+use Rattle.lowered_code.specs.declared.served.Served.{Served}
 use Rattle.lower.specs.CarriedValues.{CarriedIn}
 use Rattle.lower.specs.Keeping.{FitsMeasures}
 use Rattle.lower.specs.MergedMeaning.{merged_meaning}

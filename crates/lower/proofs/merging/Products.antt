@@ -4,8 +4,9 @@ use Rattle.std.proofs.Common.{slice_get}
 use Rattle.low_ir.specs.Run.{Setting}
 use Rattle.rt_refs.specs.Products.{product_loop, multiply}
 use Rattle.rt_refs.specs.Quotients.{quotient_loop, divide}
-use Rattle.lower.specs.Sets.{StandFrom, merged_numbers, merged_procs, with_casts}
-use Rattle.lower.specs.declared.served.CastWay.{CastWay}
+use Rattle.lower.specs.Sets.{StandFrom, with_casts}
+use Rattle.lower.specs.MergedProcs.{merged_numbers, merged_procs}
+use Rattle.lowered_code.specs.declared.served.CastWay.{CastWay}
 use Rattle.lower.specs.SimulationServices.{AnswerProducts}
 use Rattle.lower.proofs.words.Products.{products_are_served}
 

@@ -24,19 +24,20 @@ use Rattle.flat_ir.specs.FlatTally.{flat_tally_in}
 use Rattle.coer_core.specs.TurnPrices.{merged_prices}
 use Rattle.flat_ir.specs.Machine.{first_world}
 use Rattle.rt_cast.proofs.Public.{objects_fill_the_region}
-use Rattle.lower.specs.CastWays.{cast_ways}
+use Rattle.lowered_code.specs.CastWays.{cast_ways}
 use Rattle.lower.specs.Following.{ServesEverywhere}
 use Rattle.lower.specs.Keeping.{FitsMeasures, KeepsFlat, PaysFlat}
-use Rattle.lower.specs.Lowered.{entry_proc}
+use Rattle.lowered_code.specs.Lowered.{entry_proc}
 use Rattle.lower.specs.MergedMeaning.{merged_meaning, MergedCasts}
-use Rattle.lower.specs.Sets.{merged_numbers, merged_procs, with_casts}
+use Rattle.lower.specs.MergedProcs.{merged_numbers, merged_procs}
+use Rattle.lower.specs.Sets.{with_casts}
 use Rattle.lower.specs.SimulationClaims.{AreNarrow, IsLowered, RegionIsRow, StorageIsWhole}
-use Rattle.lower.proofs.closing.Sets.{cast_stand, proxy_stand}
+use Rattle.lower.proofs.merging.MergedSet.{cast_stand, proxy_stand}
 use Rattle.lower.proofs.merging.Calls.{merged_calls_made}
 use Rattle.lower.proofs.merging.Cells.{merged_cells_served}
 use Rattle.lower.proofs.merging.Casts.{merged_casts_made, merged_casts_have_words}
 use Rattle.lower.proofs.merging.Tags.{merged_casts_in_place}
-use Rattle.lower.proofs.merging.Laws.{merged_laws}
+use Rattle.lower.proofs.merging.MeaningLaws.{merged_laws}
 use Rattle.lower.proofs.merging.Parts.{merged_parts_given}
 use Rattle.lower.proofs.merging.Products.{merged_products}
 use Rattle.lower.proofs.merging.States.{filled_of}

@@ -18,7 +18,7 @@ use Rattle.flat_ir.specs.Bodies.{Proc}
 use Rattle.cast_modes.specs.Prices.{Cost}
 use Rattle.low_ir.specs.Frames.{stack_room, waiting_room}
 use Rattle.rt_cast.specs.States.{Filled as RtFilled, OnTheWay as RtWay, Within, heap_of}
-use Rattle.lower.specs.CellLaws.{OnTheWayWriting, TrapsAt}
+use Rattle.reference_laws.specs.CellLaws.{OnTheWayWriting, TrapsAt}
 use Rattle.lower.specs.MergedMeaning.{merged_meaning}
 use Rattle.lower.specs.SchemeLaws.{OnWay, StopsNow, Walks, After, Aim}
 use Rattle.lower.proofs.merging.States.{trap_stops}

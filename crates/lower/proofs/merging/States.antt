@@ -27,7 +27,7 @@ use Rattle.coer_core.specs.TurnPrices.{merged_prices}
 use Rattle.flat_ir.specs.Machine.{FlatValue, FlatFrame, FlatStore, FlatAfter, flat_arity, flat_entered}
 use Rattle.rt_cast.specs.Procs.{Stand}
 use Rattle.rt_cast.specs.States.{Heap, IsReady, Placed, Filled as RtFilled, heap_of}
-use Rattle.lower.specs.CellLaws.{TrapsAt, CellStands, CellInRegion}
+use Rattle.reference_laws.specs.CellLaws.{TrapsAt, CellStands, CellInRegion}
 use Rattle.lower.specs.Keeping.{FitsMeasures}
 use Rattle.lower.specs.MergedMeaning.{merged_meaning}
 use Rattle.lower.specs.Storage.{Filled}

@@ -34,15 +34,16 @@ use Rattle.rt_cast.specs.DynWords.{tag_of as tag_number_of}
 use Rattle.rt_cast.specs.LightCasts.{has_none}
 use Rattle.rt_cast.specs.States.{Placed, heap_of}
 use Rattle.rt_cast.proofs.Public.{SmallIs, small_is, untagged}
-use Rattle.lower.specs.declared.served.Tag.{Tag}
-use Rattle.lower.specs.declared.served.Tag.TheVariants.{Int, Bool as BoolTag, Unit as UnitTag}
-use Rattle.lower.specs.declared.served.CastWay.{CastWay}
-use Rattle.lower.specs.declared.served.CastWay.TheVariants.{Called, IntoDyn, OutOfDyn}
-use Rattle.lower.specs.declared.served.Served.{Served}
-use Rattle.lower.specs.CastWays.{tag_number, tag_of, into_dyn, out_of_dyn, way_between, cast_way, cast_ways, way_at}
-use Rattle.lower.specs.CastWays.{in_place}
+use Rattle.lowered_code.specs.declared.served.Tag.{Tag}
+use Rattle.lowered_code.specs.declared.served.Tag.TheVariants.{Int, Bool as BoolTag, Unit as UnitTag}
+use Rattle.lowered_code.specs.declared.served.CastWay.{CastWay}
+use Rattle.lowered_code.specs.declared.served.CastWay.TheVariants.{Called, IntoDyn, OutOfDyn}
+use Rattle.lowered_code.specs.declared.served.Served.{Served}
+use Rattle.lowered_code.specs.CastWays.{tag_number, tag_of, into_dyn, out_of_dyn, way_between, cast_way, cast_ways}
+use Rattle.lowered_code.specs.CastWays.{way_at}
+use Rattle.lowered_code.specs.CastWays.{in_place}
 use Rattle.lower.specs.CarriedValues.{CarriedIn}
-use Rattle.lower.specs.Emit.{cast_word}
+use Rattle.lowered_code.specs.Emit.{cast_word}
 use Rattle.lower.specs.MergedMeaning.{merged_meaning, MergedCasts}
 use Rattle.lower.specs.Keeping.{FitsMeasures}
 use Rattle.lower.specs.SchemeLaws.{Walks}

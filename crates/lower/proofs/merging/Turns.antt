@@ -25,7 +25,7 @@ use Rattle.rt_cast.specs.MergedValues.{Merged, Base, Solid, Proxied, InDyn, Outc
 use Rattle.rt_cast.specs.MergedValues.{then_outcome}
 use Rattle.rt_cast.specs.MergedValues.{decided, shape_of as merged_shape}
 use Rattle.lower.specs.CarriedValues.{CarriedIn, IsGroup}
-use Rattle.lower.specs.Numbering.{function_offset}
+use Rattle.lowered_code.specs.Numbering.{function_offset}
 use Rattle.lower.specs.MergedMeaning.{merged_meaning, WrapsKind}
 use Rattle.lower.specs.Keeping.{FitsMeasures}
 use Rattle.lower.specs.SchemeLaws.{StopsNow, After, Goes, Aim}

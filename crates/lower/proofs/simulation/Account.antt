@@ -44,7 +44,7 @@ use Rattle.flat_ir.specs.Machine.{entry_body, new_group}
 use Rattle.low_ir.specs.Frames.{frame_room, waiting_room, stack_room}
 use Rattle.rt_cast.specs.Objects.{Holds}
 use Rattle.lower.specs.Keeping.{KeepsFlat, PaysFlat}
-use Rattle.lower.specs.Lowered.{low_proc, entry_proc, show_by}
+use Rattle.lowered_code.specs.Lowered.{low_proc, entry_proc, show_by}
 use Rattle.lower.proofs.simulation.ShownAnswers.{true_false}
 use Rattle.lower.proofs.simulation.Served.{OnServed, Waits, Next, Ended, next_of, wraps_of}
 use Rattle.lower.proofs.simulation.Services.{OnTurn, Landing}
@@ -52,13 +52,15 @@ use Rattle.lower.proofs.simulation.Following.{turn}
 use Rattle.lower.proofs.simulation.Moves.{DoesDue}
 use Rattle.lower.proofs.simulation.Way.{Program, Live, Over, Ends, Quietly, R, Seen, Settled, Stopping, Way}
 use Rattle.lower.proofs.simulation.Way.{after_wraps}
-use Rattle.lower.proofs.simulation.Way.{asks_of, budget_of, cost_of, due_most, due_of, dues, mode_of, next_state}
+use Rattle.lower.proofs.simulation.Way.{asks_of, budget_of, cost_of, due_most, due_of, dues, mode_of}
+use Rattle.lower.proofs.simulation.Way.{next_state}
 use Rattle.lower.proofs.simulation.Way.{over_price, prices_of, size_of, turn_aim, turn_of, zero_once_ended}
 use Rattle.lower.proofs.simulation.Way.{stays_in, turn_room}
 use Rattle.lower.proofs.simulation.SizedStates.{related_room, shown_room}
 use Rattle.lower.proofs.simulation.Starts.{entered_flat, entered_low, first_step, first_live}
 use Rattle.lower.proofs.words.Credits.{costs_first, costs_rest}
-use Rattle.lower.proofs.words.Stops.{AreSized, Sized, Grows, Stepped, stepped as step_grows, stops_cheaply, frame_most}
+use Rattle.lower.proofs.words.Stops.{AreSized, Sized, Grows, Stepped, stepped as step_grows, stops_cheaply}
+use Rattle.lower.proofs.words.Stops.{frame_most}
 use Rattle.lower.proofs.words.Stops.{numbered_words}
 
 -- ---- steps with a meter

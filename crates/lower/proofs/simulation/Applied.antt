@@ -20,12 +20,13 @@ use Rattle.flat_ir.specs.Closed.{operand_bound, operands_bound}
 use Rattle.flat_ir.specs.Machine.{FlatCode, FlatValue, FlatAfter, FlatState, Group}
 use Rattle.flat_ir.specs.Machine.{value, values, flat_turn}
 use Rattle.flat_ir.specs.Machine.{Locals as FlatLocals}
-use Rattle.lower.specs.declared.numbering.Shape.{Shape}
+use Rattle.lowered_code.specs.declared.numbering.Shape.{Shape}
 use Rattle.low_ir.specs.Frames.{frame_room, waiting_room}
 use Rattle.rt_cast.specs.States.{Heap}
-use Rattle.lower.specs.Numbering.{operand_word, test_word}
-use Rattle.lower.specs.Emit.{Then, ToCaller, Into, emit, call, call_by, is_sibling, found, found_all, apply_words}
-use Rattle.lower.specs.Emit.{source_at}
+use Rattle.lowered_code.specs.Numbering.{operand_word, test_word}
+use Rattle.lowered_code.specs.Emit.{Then, ToCaller, Into, emit, call, call_by, is_sibling, found, found_all}
+use Rattle.lowered_code.specs.Emit.{apply_words}
+use Rattle.lowered_code.specs.Emit.{source_at}
 use Rattle.lower.specs.CarriedValues.{AreCarried}
 use Rattle.lower.specs.Relation.{Fits, NoCasts, pending_values}
 use Rattle.lower.specs.SchemeLaws.{Goes, Calls, Serves, at_or_zero, call_leaves}
@@ -38,14 +39,17 @@ use Rattle.low_ir.specs.Prices.{low_price, codes_price}
 use Rattle.std.proofs.Common.{◌*◌}
 use Rattle.flat_ir.specs.FlatTally.{act_cost}
 use Rattle.lower.proofs.words.EmitPrices.{call_price_all, call_body_begins, then_price}
-use Rattle.lower.proofs.words.Operands.{Changes, ChangesFrom, and_true, both_words, found_all_same, same_besides}
+use Rattle.lower.proofs.words.Operands.{Changes, ChangesFrom, and_true, both_words, found_all_same}
+use Rattle.lower.proofs.words.Operands.{same_besides}
 use Rattle.lower.proofs.words.Operands.{value_carried, values_carried}
 use Rattle.lower.proofs.words.Services.{taken}
-use Rattle.lower.proofs.simulation.Way.{Program, N, mode_of, prices_of, next_state, cost_of, dues, due_is, waiting_dues}
+use Rattle.lower.proofs.simulation.Way.{Program, N, mode_of, prices_of, next_state, cost_of, dues, due_is}
+use Rattle.lower.proofs.simulation.Way.{waiting_dues}
 use Rattle.lower.proofs.simulation.Way.{room_over, turn_room, stays_in}
 use Rattle.lower.proofs.simulation.Gives.{CarriedHere, RestHere, CallersHere}
 use Rattle.lower.proofs.simulation.Served.{silent_after}
-use Rattle.lower.proofs.simulation.Services.{OnTurn, Calling, Served, calling_goal, calls_now, is_served, serve_step}
+use Rattle.lower.proofs.simulation.Services.{OnTurn, Calling, Served, calling_goal, calls_now, is_served}
+use Rattle.lower.proofs.simulation.Services.{serve_step}
 use Rattle.lower.proofs.simulation.Services.{entered_room}
 use Rattle.lower.proofs.simulation.Casts.{serving_scene, as_it_was}
 use Rattle.lower.proofs.simulation.Serving.{after_fetching, not_of_kind, wrapped_there}

@@ -20,14 +20,15 @@ use Rattle.coercion_norm.specs.Objects.{Object}
 use Rattle.low_ir.specs.Frames.{frame_room, waiting_room}
 use Rattle.rt_cast.specs.States.{Heap}
 use Rattle.lower.specs.Storage.{Filled}
-use Rattle.lower.specs.declared.numbering.Shape.{Shape}
-use Rattle.lower.specs.Numbering.{own_word, operand_word, local_word}
-use Rattle.lower.specs.Emit.{Then, ToCaller, Into, emit, found, choose, group_words}
-use Rattle.lower.specs.Lowered.{low_proc}
+use Rattle.lowered_code.specs.declared.numbering.Shape.{Shape}
+use Rattle.lowered_code.specs.Numbering.{own_word, operand_word, local_word}
+use Rattle.lowered_code.specs.Emit.{Then, ToCaller, Into, emit, found, choose, group_words}
+use Rattle.lowered_code.specs.Lowered.{low_proc}
 use Rattle.lower.specs.CarriedValues.{CellsHeld, IsMember}
 use Rattle.lower.specs.Relation.{Falls, Fits, Knows, Gave}
 use Rattle.lower.proofs.heap.CarriedLater.{cells_later, cells_below}
-use Rattle.lower.proofs.simulation.RelationKept.{rest_later, callers_later, rest_same, rest_branch, rest_deeper}
+use Rattle.lower.proofs.simulation.RelationKept.{rest_later, callers_later, rest_same, rest_branch}
+use Rattle.lower.proofs.simulation.RelationKept.{rest_deeper}
 use Rattle.lower.proofs.simulation.RelationKept.{knows_same}
 use Rattle.lower.proofs.simulation.RelationKept.{knows_later, knows_more, SameNamed, OwnName, Between}
 use Rattle.lower.proofs.simulation.RelationKept.{free_other}
@@ -47,8 +48,10 @@ use Rattle.lower.proofs.words.Groups.{makes_group}
 use Rattle.lower.proofs.simulation.Groups.{begins_so, all_members}
 use Rattle.lower.proofs.simulation.Way.{room_over, turn_room, stays_in}
 use Rattle.lower.proofs.simulation.Way.{mode_of, N}
-use Rattle.lower.proofs.simulation.Way.{Program, Follows, Live, Kept, next_state, Way, scene_for, turn_goal, turn_aim}
-use Rattle.lower.proofs.simulation.Way.{kept_by, kept_with, kept_here, at_start, asks_of, budget_of, dues, due_of}
+use Rattle.lower.proofs.simulation.Way.{Program, Follows, Live, Kept, next_state, Way, scene_for, turn_goal}
+use Rattle.lower.proofs.simulation.Way.{turn_aim}
+use Rattle.lower.proofs.simulation.Way.{kept_by, kept_with, kept_here, at_start, asks_of, budget_of, dues}
+use Rattle.lower.proofs.simulation.Way.{due_of}
 use Rattle.lower.proofs.simulation.Way.{due_most, arrives, floor_of}
 use Rattle.lower.proofs.simulation.Gives.{CarriedHere, RestHere, CallersHere, levels_above, living}
 use Rattle.lower.proofs.simulation.Operations.{goes_wrong, still_asked}

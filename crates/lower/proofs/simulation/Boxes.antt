@@ -21,12 +21,12 @@ use Rattle.flat_ir.specs.Bodies.{Give}
 use Rattle.flat_ir.specs.Closed.{operand_bound, operands_bound}
 use Rattle.flat_ir.specs.Machine.{FlatValue, FlatAfter, FlatState, Group, value, values}
 use Rattle.flat_ir.specs.Machine.{Locals as FlatLocals}
-use Rattle.lower.specs.declared.numbering.Shape.{Shape}
+use Rattle.lowered_code.specs.declared.numbering.Shape.{Shape}
 use Rattle.rt_cast.specs.Objects.{HoldsWords}
 use Rattle.rt_cast.specs.States.{Heap}
 use Rattle.lower.specs.Storage.{Filled}
-use Rattle.lower.specs.Numbering.{operand_word, test_word}
-use Rattle.lower.specs.Emit.{Then, found, found_all, fetch_all, of_kind}
+use Rattle.lowered_code.specs.Numbering.{operand_word, test_word}
+use Rattle.lowered_code.specs.Emit.{Then, found, found_all, fetch_all, of_kind}
 use Rattle.lower.specs.CarriedValues.{AreCarried, CellHeld, CellsHeld}
 use Rattle.lower.specs.Relation.{Fits}
 use Rattle.lower.proofs.heap.Objects.{Within, found_within, stored_words, bytes_below, holds_same, box_header}
@@ -36,10 +36,11 @@ use Rattle.lower.proofs.heap.Cells.{cells_end, cell_word_there}
 use Rattle.lower.proofs.heap.CarriedLater.{grown, cells_grown, cells_below, carried_small}
 use Rattle.lower.proofs.simulation.RelationKept.{word_here, word_other, rest_grown, callers_grown}
 use Rattle.lower.proofs.words.Arithmetic.{header_is}
-use Rattle.lower.proofs.words.Steps.{at, Comes, here, comes_on, builds, loads, stores, sets_word, falls_through, Calm}
+use Rattle.lower.proofs.words.Steps.{at, Comes, here, comes_on, builds, loads, stores, sets_word}
+use Rattle.lower.proofs.words.Steps.{falls_through, Calm}
 use Rattle.lower.proofs.words.Steps.{Goal}
 use Rattle.lower.proofs.words.EmitPrices.{prim_price, perform_begins}
-use Rattle.lower.specs.Emit.{perform}
+use Rattle.lowered_code.specs.Emit.{perform}
 use Rattle.flat_ir.specs.declared.code.Operation.TheVariants.{Prim}
 use Rattle.grift_base.specs.declared.operators.PrimOp.{PrimOp}
 use Rattle.grift_base.specs.declared.operators.PrimOp.TheVariants.{MakeBox, Unbox, BoxSet}
@@ -49,7 +50,8 @@ use Rattle.lower.proofs.words.Operands.{fetch_all_reads, ChangesFrom, both_words
 use Rattle.lower.proofs.words.Operations.{Touches, not_computed, is_of_kind, added_there}
 use Rattle.lower.proofs.words.Groups.{storable}
 use Rattle.lower.proofs.simulation.Way.{room_over, stays_in}
-use Rattle.lower.proofs.simulation.Way.{Program, Way, Follows, next_state, scene_for, turn_goal, kept_by, at_start}
+use Rattle.lower.proofs.simulation.Way.{Program, Way, Follows, next_state, scene_for, turn_goal, kept_by}
+use Rattle.lower.proofs.simulation.Way.{at_start}
 use Rattle.lower.proofs.simulation.Way.{asks_of, budget_of}
 use Rattle.lower.proofs.simulation.Gives.{CarriedHere, RestHere, CallersHere, given, word_for, code_for}
 use Rattle.lower.proofs.simulation.Gives.{Fitting, due_for}

@@ -21,12 +21,12 @@ use Rattle.flat_ir.specs.Levels.{levels}
 use Rattle.coercion_norm.specs.Objects.{Object, Fixed}
 use Rattle.rt_cast.specs.States.{Heap}
 use Rattle.lower.specs.Storage.{Filled}
-use Rattle.lower.specs.declared.numbering.Shape.{Shape}
-use Rattle.lower.specs.Numbering.{test_word, operand_word, local_word, function_offset}
-use Rattle.lower.specs.Emit.{Then, ToCaller, Into, emit, found, found_all, call, call_bare, call_by, is_sibling}
-use Rattle.lower.specs.Emit.{of_kind}
-use Rattle.lower.specs.Emit.{apply_words}
-use Rattle.lower.specs.Lowered.{low_proc, shape_of}
+use Rattle.lowered_code.specs.declared.numbering.Shape.{Shape}
+use Rattle.lowered_code.specs.Numbering.{test_word, operand_word, local_word, function_offset}
+use Rattle.lowered_code.specs.Emit.{Then, ToCaller, Into, emit, found, found_all, call, call_bare, call_by, is_sibling}
+use Rattle.lowered_code.specs.Emit.{of_kind}
+use Rattle.lowered_code.specs.Emit.{apply_words}
+use Rattle.lowered_code.specs.Lowered.{low_proc, shape_of}
 use Rattle.coercion_norm.specs.Held.{There}
 use Rattle.std.proofs.Common.{le_refl}
 use Rattle.lower.specs.CarriedValues.{CellsHeld, IsMember, AreCarried, IsGroup}
@@ -34,9 +34,11 @@ use Rattle.lower.specs.Relation.{Fits, OwnGroup, Runs}
 use Rattle.lower.proofs.heap.Objects.{none_some, same_some}
 use Rattle.lower.proofs.heap.Filled.{WordThere, word_there, header_there}
 use Rattle.lower.proofs.heap.CarriedLater.{as_many, carried_at, function_there}
-use Rattle.lower.proofs.simulation.RelationKept.{rest_same, rest_branch, word_here, word_other, local_low, SameNamed}
+use Rattle.lower.proofs.simulation.RelationKept.{rest_same, rest_branch, word_here, word_other, local_low}
+use Rattle.lower.proofs.simulation.RelationKept.{SameNamed}
 use Rattle.lower.proofs.simulation.RelationKept.{Named, OwnName, LowName, HighName}
-use Rattle.lower.proofs.words.Steps.{at, Comes, Moves, here, moves_later, loads, loads_first, tail_calls_at, calls_at}
+use Rattle.lower.proofs.words.Steps.{at, Comes, Moves, here, moves_later, loads, loads_first, tail_calls_at}
+use Rattle.lower.proofs.words.Steps.{calls_at}
 use Rattle.lower.proofs.words.Steps.{waiting_for, first_to, left_of, Calm, Goal}
 use Rattle.lower.proofs.words.Scene.{Scene}
 use Rattle.lower.proofs.words.Operands.{fetch_all_reads, and_true, Changes, ChangesFrom, found_all_same}
@@ -44,7 +46,8 @@ use Rattle.lower.proofs.words.Operands.{same_besides}
 use Rattle.lower.proofs.words.Operations.{is_of_kind}
 use Rattle.lower.proofs.simulation.Groups.{proc_is_closed}
 use Rattle.lower.proofs.simulation.Way.{room_over, stays_in}
-use Rattle.lower.proofs.simulation.Way.{Program, next_state, Way, Allowed, scene_for, turn_goal, at_start, budget_of}
+use Rattle.lower.proofs.simulation.Way.{Program, next_state, Way, Allowed, scene_for, turn_goal, at_start}
+use Rattle.lower.proofs.simulation.Way.{budget_of}
 use Rattle.lower.proofs.simulation.Way.{dues, due_most, due_is, waiting_dues}
 use Rattle.lower.proofs.words.EmitPrices.{call_price_all, call_body_begins, then_price}
 use Rattle.low_ir.specs.Prices.{code_price, codes_price}

@@ -21,14 +21,14 @@ use Rattle.flat_ir.specs.Bodies.{Give}
 use Rattle.flat_ir.specs.Counts.{decision_at}
 use Rattle.flat_ir.specs.Machine.{FlatValue, FlatAfter, FlatState, Group, value, flat_cast}
 use Rattle.flat_ir.specs.Machine.{Locals as FlatLocals}
-use Rattle.lower.specs.declared.numbering.Shape.{Shape}
-use Rattle.lower.specs.declared.served.Tag.{Tag}
-use Rattle.lower.specs.declared.served.CastWay.{CastWay}
-use Rattle.lower.specs.declared.served.CastWay.TheVariants.{Called, IntoDyn, OutOfDyn}
+use Rattle.lowered_code.specs.declared.numbering.Shape.{Shape}
+use Rattle.lowered_code.specs.declared.served.Tag.{Tag}
+use Rattle.lowered_code.specs.declared.served.CastWay.{CastWay}
+use Rattle.lowered_code.specs.declared.served.CastWay.TheVariants.{Called, IntoDyn, OutOfDyn}
 use Rattle.rt_cast.specs.States.{Heap}
-use Rattle.lower.specs.Numbering.{operand_word, test_word}
-use Rattle.lower.specs.CastWays.{tag_number, way_at, in_place}
-use Rattle.lower.specs.Emit.{Then, perform, found, cast_word, call_cast, make_cast}
+use Rattle.lowered_code.specs.Numbering.{operand_word, test_word}
+use Rattle.lowered_code.specs.CastWays.{tag_number, way_at, in_place}
+use Rattle.lowered_code.specs.Emit.{Then, perform, found, cast_word, call_cast, make_cast}
 use Rattle.lower.specs.Relation.{Fits, Falls}
 use Rattle.lower.proofs.heap.CarriedLater.{carried_small}
 use Rattle.lower.proofs.simulation.RelationKept.{word_here, word_other}
@@ -39,21 +39,25 @@ use Rattle.lower.proofs.words.Steps.{at, Comes, Calm, Goal, left_of, computes, c
 use Rattle.low_ir.specs.Prices.{code_price, codes_price, step_price}
 use Rattle.std.proofs.Common.{◌*◌, length, sym, subst}
 use Rattle.flat_ir.specs.FlatTally.{cast_cost}
-use Rattle.lower.proofs.words.EmitPrices.{perform_begins, cast_price, slot_most, slot_near, source_most, test_near}
+use Rattle.lower.proofs.words.EmitPrices.{perform_begins, cast_price, slot_most, slot_near, source_most}
+use Rattle.lower.proofs.words.EmitPrices.{test_near}
 use Rattle.lower.proofs.words.EmitPrices.{tag_small as tag_small_price}
 use Rattle.lower.proofs.words.Steps.{if_true, if_false}
-use Rattle.lower.proofs.words.Operands.{fetch_reads, value_carried, Changes, ChangesFrom, both_words, found_same}
+use Rattle.lower.proofs.words.Operands.{fetch_reads, value_carried, Changes, ChangesFrom, both_words}
+use Rattle.lower.proofs.words.Operands.{found_same}
 use Rattle.lower.proofs.words.Operands.{same_besides}
 use Rattle.lower.proofs.words.Operations.{Touches, beside, not_computed}
 use Rattle.lower.proofs.simulation.Way.{scene_with}
-use Rattle.lower.proofs.simulation.Way.{Program, mode_of, prices_of, next_state, asks_of, budget_of, cost_of, dues}
+use Rattle.lower.proofs.simulation.Way.{Program, mode_of, prices_of, next_state, asks_of, budget_of, cost_of}
+use Rattle.lower.proofs.simulation.Way.{dues}
 use Rattle.lower.proofs.simulation.Way.{due_is, room_over, stays_in}
 use Rattle.lower.proofs.simulation.Way.{waiting_dues}
 use Rattle.lower.proofs.simulation.Gives.{RestHere, word_for, code_for}
 use Rattle.lower.proofs.simulation.Operations.{room, giving}
 use Rattle.lower.proofs.simulation.Served.{silent_after}
 use Rattle.lower.specs.SchemeLaws.{After, Goes, Returns, GivesInPlace, cast_leaves}
-use Rattle.lower.proofs.simulation.Services.{OnTurn, Landing, Calling, Served, calling_goal, starting_goal, some_calls}
+use Rattle.lower.proofs.simulation.Services.{OnTurn, Landing, Calling, Served, calling_goal, starting_goal}
+use Rattle.lower.proofs.simulation.Services.{some_calls}
 use Rattle.lower.proofs.simulation.Services.{later_calls}
 use Rattle.lower.proofs.simulation.Services.{is_served, lower_floor, calls_now, starts_now, called, caller}
 use Rattle.lower.proofs.simulation.Tags.{put_in_place}

@@ -19,10 +19,10 @@ use Rattle.flat_ir.specs.Bodies.{Give}
 use Rattle.flat_ir.specs.Closed.{operands_bound}
 use Rattle.flat_ir.specs.Machine.{FlatValue, FlatAfter, FlatState, Group, values, flat_operate}
 use Rattle.flat_ir.specs.Machine.{Locals as FlatLocals}
-use Rattle.lower.specs.declared.numbering.Shape.{Shape}
+use Rattle.lowered_code.specs.declared.numbering.Shape.{Shape}
 use Rattle.rt_cast.specs.States.{Heap}
-use Rattle.lower.specs.Numbering.{operand_word, test_word}
-use Rattle.lower.specs.Emit.{Then, found_all, fetch_all, source_at, of_kind}
+use Rattle.lowered_code.specs.Numbering.{operand_word, test_word}
+use Rattle.lowered_code.specs.Emit.{Then, found_all, fetch_all, source_at, of_kind}
 use Rattle.lower.specs.CarriedValues.{AreCarried}
 use Rattle.lower.specs.Relation.{Fits, Falls}
 use Rattle.lower.specs.SimulationServices.{StandsAs}
@@ -33,15 +33,18 @@ use Rattle.low_ir.specs.Prices.{code_price, codes_price}
 use Rattle.std.proofs.Common.{◌*◌}
 use Rattle.flat_ir.specs.FlatTally.{operator_cost}
 use Rattle.lower.proofs.words.EmitPrices.{prim_price, perform_begins}
-use Rattle.lower.specs.Emit.{perform}
-use Rattle.lower.proofs.words.Operands.{values_carried, ChangesFrom, Changes, and_true, both_words, found_all_same}
+use Rattle.lowered_code.specs.Emit.{perform}
+use Rattle.lower.proofs.words.Operands.{values_carried, ChangesFrom, Changes, and_true, both_words}
+use Rattle.lower.proofs.words.Operands.{found_all_same}
 use Rattle.lower.proofs.words.Operations.{Touches, not_computed}
-use Rattle.lower.proofs.simulation.Way.{Program, mode_of, prices_of, next_state, cost_of, waiting_dues, due_same}
+use Rattle.lower.proofs.simulation.Way.{Program, mode_of, prices_of, next_state, cost_of, waiting_dues}
+use Rattle.lower.proofs.simulation.Way.{due_same}
 use Rattle.lower.proofs.simulation.Way.{room_over, stays_in}
 use Rattle.lower.proofs.simulation.Gives.{RestHere, word_for, code_for}
 use Rattle.lower.proofs.simulation.Operations.{giving}
 use Rattle.lower.proofs.simulation.Served.{silent_after}
-use Rattle.lower.proofs.simulation.Services.{Calling, Served, called, caller, is_served, lower_floor, calls_now}
+use Rattle.lower.proofs.simulation.Services.{Calling, Served, called, caller, is_served, lower_floor}
+use Rattle.lower.proofs.simulation.Services.{calls_now}
 use Rattle.lower.proofs.simulation.Casts.{serving_scene, as_it_was}
 use Rattle.lower.proofs.simulation.Serving.{after_fetching, not_of_kind, wrapped_there}
 use Rattle.lower.specs.Meanings.{IsWrapper}

@@ -19,7 +19,7 @@ use Rattle.flat_ir.specs.Machine.{locals_of, flat_state_at}
 use Rattle.flat_ir.specs.Levels.{levels}
 use Rattle.low_ir.specs.Frames.{stack_room}
 use Rattle.rt_cast.specs.States.{heap_of}
-use Rattle.lower.specs.Lowered.{low_proc}
+use Rattle.lowered_code.specs.Lowered.{low_proc}
 use Rattle.lower.specs.SchemeLaws.{Calls, CallsAt, call_leaves}
 use Rattle.lower.specs.Meanings.{is_last}
 use Rattle.lower.proofs.heap.Objects.{none_some, same_some}

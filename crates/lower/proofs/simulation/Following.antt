@@ -31,7 +31,7 @@ use Rattle.rt_cast.specs.Objects.{Holds}
 use Rattle.low_ir.specs.Frames.{stack_room}
 use Rattle.rt_cast.specs.States.{Heap, heap_of}
 use Rattle.lower.specs.Storage.{Filled}
-use Rattle.lower.specs.Lowered.{entry_proc}
+use Rattle.lowered_code.specs.Lowered.{entry_proc}
 use Rattle.lower.specs.Relation.{Goes, Related}
 use Rattle.lower.specs.Storage.{Passes}
 use Rattle.run_laws.proofs.Public.{DoesAt, IndexedSimulation, follows_by_index}

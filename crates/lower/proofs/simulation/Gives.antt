@@ -10,11 +10,12 @@ use Rattle.flat_ir.specs.Bodies.{Body, Give, Call, Choose, LetBody, LetGroup}
 use Rattle.flat_ir.specs.Machine.{FlatValue, FlatFrame, Group, Waiting}
 use Rattle.flat_ir.specs.Levels.{levels}
 use Rattle.coercion_norm.specs.Objects.{Object}
-use Rattle.lower.specs.declared.numbering.Shape.{Shape}
-use Rattle.lower.specs.Numbering.{test_word}
-use Rattle.lower.specs.Emit.{Then, ToCaller, Into}
+use Rattle.lowered_code.specs.declared.numbering.Shape.{Shape}
+use Rattle.lowered_code.specs.Numbering.{test_word}
+use Rattle.lowered_code.specs.Emit.{Then, ToCaller, Into}
 use Rattle.lower.specs.Relation.{Carried, Rest, Callers, Gave, Goes}
-use Rattle.lower.proofs.simulation.RelationKept.{rest_same, waits_so, OwnName, LowName, HighName, SameNamed, local_high}
+use Rattle.lower.proofs.simulation.RelationKept.{rest_same, waits_so, OwnName, LowName, HighName, SameNamed}
+use Rattle.lower.proofs.simulation.RelationKept.{local_high}
 use Rattle.lower.proofs.words.Operations.{Touches}
 use Rattle.lower.specs.Meanings.{is_last}
 use Rattle.low_ir.specs.Prices.{code_price}

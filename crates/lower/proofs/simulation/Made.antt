@@ -30,14 +30,14 @@ use Rattle.flat_ir.specs.Views.{procs_of as flat_procs_of}
 use Rattle.rt_cast.specs.Objects.{Holds, HoldsWords}
 use Rattle.rt_cast.specs.States.{Placed}
 use Rattle.rt_cast.proofs.Public.{objects_stand_where_their_words_do}
-use Rattle.lower.specs.declared.served.Served.{Served}
-use Rattle.lower.specs.CastWays.{cast_ways}
+use Rattle.lowered_code.specs.declared.served.Served.{Served}
+use Rattle.lowered_code.specs.CastWays.{cast_ways}
 use Rattle.lower.specs.Following.{ServesEverywhere}
 use Rattle.lower.specs.Keeping.{KeepsFlat, PaysFlat}
-use Rattle.lower.specs.Lowered.{entry_proc, low_proc, lowered}
+use Rattle.lowered_code.specs.Lowered.{entry_proc, low_proc, lowered}
 use Rattle.lower.specs.MadePrograms.{IsLoaded, MadeFollows, MadeKeeps, StaticsServe, told_in}
 use Rattle.lower.specs.Meanings.{Meaning, MeaningLaws}
-use Rattle.lower.specs.Serving.{all_narrow}
+use Rattle.lowered_code.specs.Serving.{all_narrow}
 use Rattle.lower.specs.Sets.{with_casts}
 use Rattle.lower.specs.SimulationClaims.{AreNarrow, IsLowered}
 use Rattle.lower.specs.Storage.{Passes}

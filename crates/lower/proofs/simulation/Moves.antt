@@ -45,8 +45,8 @@ use Rattle.coercion_norm.specs.Held.{TypesStand}
 use Rattle.coercion_norm.specs.Objects.{Object}
 use Rattle.rt_cast.specs.States.{Heap}
 use Rattle.lower.specs.Storage.{Filled}
-use Rattle.lower.specs.declared.numbering.Shape.{Shape}
-use Rattle.lower.specs.Emit.{Then, ToCaller, Into, emit, give, perform}
+use Rattle.lowered_code.specs.declared.numbering.Shape.{Shape}
+use Rattle.lowered_code.specs.Emit.{Then, ToCaller, Into, emit, give, perform}
 use Rattle.lower.specs.CarriedValues.{CellsHeld}
 use Rattle.lower.specs.Relation.{Fits, Gave, NoCasts, pending_values}
 use Rattle.lower.proofs.simulation.RelationKept.{word_here, word_other}
@@ -62,10 +62,12 @@ use Rattle.lower.proofs.simulation.Way.{room_over, turn_room, stays_in, below_in
 use Rattle.lower.proofs.simulation.Way.{mode_of}
 use Rattle.lower.proofs.simulation.Way.{Program, Live, Follows, FollowsBy, next_state, Way, scene_for, size_of}
 use Rattle.lower.proofs.simulation.Way.{prices_of}
-use Rattle.lower.proofs.simulation.Way.{turn_goal, turn_aim, floor_of, arrives, kept_here, by_follows, at_start}
+use Rattle.lower.proofs.simulation.Way.{turn_goal, turn_aim, floor_of, arrives, kept_here, by_follows}
+use Rattle.lower.proofs.simulation.Way.{at_start}
 use Rattle.lower.proofs.simulation.Way.{asks_of, budget_of}
 use Rattle.lower.proofs.simulation.Way.{frames_weight}
-use Rattle.lower.proofs.simulation.Gives.{CarriedHere, RestHere, CallersHere, put_in, word_fits, word_for, code_for}
+use Rattle.lower.proofs.simulation.Gives.{CarriedHere, RestHere, CallersHere, put_in, word_fits, word_for}
+use Rattle.lower.proofs.simulation.Gives.{code_for}
 use Rattle.lower.proofs.simulation.Gives.{living}
 use Rattle.lower.proofs.simulation.Operations.{wrong_by, move_turns, tuple_turns, part_turns}
 use Rattle.flat_ir.specs.Machine.{flat_cast, set_group, new_group}

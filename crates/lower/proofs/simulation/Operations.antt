@@ -22,9 +22,9 @@ use Rattle.coercion_norm.specs.Held.{TypesStand}
 use Rattle.coercion_norm.specs.Objects.{Object}
 use Rattle.rt_cast.specs.States.{Heap}
 use Rattle.lower.specs.Storage.{Filled}
-use Rattle.lower.specs.declared.numbering.Shape.{Shape}
-use Rattle.lower.specs.Numbering.{operand_word}
-use Rattle.lower.specs.Emit.{Then, ToCaller, Into, give, perform, found}
+use Rattle.lowered_code.specs.declared.numbering.Shape.{Shape}
+use Rattle.lowered_code.specs.Numbering.{operand_word}
+use Rattle.lowered_code.specs.Emit.{Then, ToCaller, Into, give, perform, found}
 use Rattle.lower.specs.CarriedValues.{CellsHeld}
 use Rattle.lower.specs.Relation.{Fits, entry_waiting}
 use Rattle.lower.proofs.heap.CarriedLater.{cells_later, cells_below}
@@ -48,7 +48,8 @@ use Rattle.lower.proofs.simulation.Way.{scene_for, kept_by, kept_here, at_start,
 use Rattle.lower.proofs.simulation.Way.{waiting_dues, zero_once_ended, FollowsBy, arrives}
 use Rattle.run_laws.specs.Runs.{Ending}
 use Rattle.grift_base.specs.declared.verdicts.Verdict.{Verdict}
-use Rattle.lower.proofs.simulation.Gives.{CarriedHere, RestHere, CallersHere, given, word_for, code_for, word_fits}
+use Rattle.lower.proofs.simulation.Gives.{CarriedHere, RestHere, CallersHere, given, word_for, code_for}
+use Rattle.lower.proofs.simulation.Gives.{word_fits}
 use Rattle.lower.proofs.simulation.Gives.{Fitting, due_for, GoesHere, living}
 use Rattle.lower.proofs.simulation.ShownAnswers.{answered}
 use Rattle.cast_modes.specs.ValueSteps.{CastFrame, casts_onto}

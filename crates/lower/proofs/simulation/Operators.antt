@@ -31,9 +31,9 @@ use Rattle.coercion_norm.specs.Held.{TypesStand}
 use Rattle.coercion_norm.specs.Objects.{Object}
 use Rattle.rt_cast.specs.States.{Heap}
 use Rattle.lower.specs.Storage.{Filled}
-use Rattle.lower.specs.declared.numbering.Shape.{Shape}
-use Rattle.lower.specs.Numbering.{operand_word, test_word}
-use Rattle.lower.specs.Emit.{Then, perform, fetch_all, found}
+use Rattle.lowered_code.specs.declared.numbering.Shape.{Shape}
+use Rattle.lowered_code.specs.Numbering.{operand_word, test_word}
+use Rattle.lowered_code.specs.Emit.{Then, perform, fetch_all, found}
 use Rattle.lower.specs.CarriedValues.{CellsHeld}
 use Rattle.lower.specs.Relation.{Fits}
 use Rattle.std.proofs.Common.{pos}
@@ -61,11 +61,14 @@ use Rattle.lower.proofs.simulation.Way.{room_over, stays_in, serves_in}
 use Rattle.lower.proofs.simulation.Way.{Seen, Stopping, stopped_over}
 use Rattle.lower.proofs.words.Arithmetic.{le_turned}
 use Rattle.lower.proofs.words.Operations.{Touches}
-use Rattle.lower.proofs.words.Operators.{adds, subtracts, less, greater, at_most, at_least, equal, negates, prints_int}
+use Rattle.lower.proofs.words.Operators.{adds, subtracts, less, greater, at_most, at_least, equal, negates}
+use Rattle.lower.proofs.words.Operators.{prints_int}
 use Rattle.lower.proofs.words.Operators.{prints_newline, input_stops, reads_int, reads_none, Standing}
 use Rattle.lower.proofs.simulation.Way.{mode_of}
-use Rattle.lower.proofs.simulation.Way.{Program, Follows, FollowsFrom, FollowsBy, next_state, Way, Allowed, scene_for}
-use Rattle.lower.proofs.simulation.Way.{by_follows, turn_goal, turn_aim, kept_by, kept_besides, at_start, budget_of}
+use Rattle.lower.proofs.simulation.Way.{Program, Follows, FollowsFrom, FollowsBy, next_state, Way, Allowed}
+use Rattle.lower.proofs.simulation.Way.{scene_for}
+use Rattle.lower.proofs.simulation.Way.{by_follows, turn_goal, turn_aim, kept_by, kept_besides, at_start}
+use Rattle.lower.proofs.simulation.Way.{budget_of}
 use Rattle.lower.proofs.simulation.Way.{due_is}
 use Rattle.lower.proofs.simulation.Way.{floor_of, above_floor}
 use Rattle.lower.proofs.simulation.Gives.{Fitting, due_for}

@@ -20,10 +20,10 @@ use Rattle.flat_ir.specs.Closed.{operand_bound}
 use Rattle.flat_ir.specs.Machine.{FlatValue, FlatAfter, FlatState, Group, value, values, flat_proj, flat_arity}
 use Rattle.flat_ir.specs.Machine.{flat_entered}
 use Rattle.flat_ir.specs.Machine.{Locals as FlatLocals}
-use Rattle.lower.specs.declared.numbering.Shape.{Shape}
+use Rattle.lowered_code.specs.declared.numbering.Shape.{Shape}
 use Rattle.rt_cast.specs.States.{Heap}
-use Rattle.lower.specs.Numbering.{operand_word, test_word}
-use Rattle.lower.specs.Emit.{Then, perform, part, found, fetch_all, found_all, of_kind}
+use Rattle.lowered_code.specs.Numbering.{operand_word, test_word}
+use Rattle.lowered_code.specs.Emit.{Then, perform, part, found, fetch_all, found_all, of_kind}
 use Rattle.lower.specs.CarriedValues.{AreCarried}
 use Rattle.lower.specs.Relation.{Fits, Falls}
 use Rattle.lower.specs.SchemeLaws.{Goes, Returns, Answers, part_leaves}
@@ -39,7 +39,8 @@ use Rattle.lower.specs.Meanings.{is_last}
 use Rattle.std.proofs.Common.{length}
 use Rattle.lower.proofs.words.Operands.{value_carried, Changes, ChangesFrom, both_words, found_all_same}
 use Rattle.lower.proofs.words.Operations.{Touches, not_computed}
-use Rattle.lower.proofs.simulation.Way.{Program, mode_of, prices_of, next_state, cost_of, waiting_dues, due_same}
+use Rattle.lower.proofs.simulation.Way.{Program, mode_of, prices_of, next_state, cost_of, waiting_dues}
+use Rattle.lower.proofs.simulation.Way.{due_same}
 use Rattle.lower.proofs.simulation.Way.{room_over, stays_in}
 use Rattle.lower.proofs.simulation.Gives.{CarriedHere, RestHere, word_for, code_for}
 use Rattle.lower.proofs.simulation.Operations.{giving}

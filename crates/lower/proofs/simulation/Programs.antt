@@ -23,15 +23,15 @@ use Rattle.flat_ir.specs.Counts.{flat_run_in}
 use Rattle.flat_ir.specs.FlatTally.{flat_tally_in}
 use Rattle.flat_ir.specs.Machine.{first_world}
 use Rattle.coercion_norm.specs.Held.{Layout, TypesStand}
-use Rattle.lower.specs.declared.served.Served.{Served}
-use Rattle.lower.specs.Lowered.{low_proc, entry_proc}
-use Rattle.lower.specs.CastWays.{cast_ways}
+use Rattle.lowered_code.specs.declared.served.Served.{Served}
+use Rattle.lowered_code.specs.Lowered.{low_proc, entry_proc}
+use Rattle.lowered_code.specs.CastWays.{cast_ways}
 use Rattle.lower.specs.Meanings.{Meaning, MeaningLaws}
 use Rattle.lower.specs.Storage.{Passes}
 use Rattle.lower.specs.Sets.{StandFrom, with_casts}
 use Rattle.lower.specs.Following.{Serving, ServesEverywhere, WordsFollow, WordsKeep}
 use Rattle.lower.specs.SimulationClaims.{AreNarrow, IsLowered}
-use Rattle.lower.proofs.closing.Sets.{stand_behind}
+use Rattle.lower.proofs.Sets.{stand_behind}
 use Rattle.lower.proofs.heap.Objects.{none_some, same_some}
 use Rattle.lower.proofs.words.Operands.{and_true}
 use Rattle.lower.proofs.simulation.Account.{words_keep}

@@ -14,10 +14,10 @@ use Rattle.flat_ir.specs.Machine.{FlatValue, FlatFrame, Group, Locals as FlatLoc
 use Rattle.flat_ir.specs.Machine.{set_local as set_flat}
 use Rattle.coercion_norm.specs.Objects.{Object}
 use Rattle.coercion_norm.specs.Held.{Layout}
-use Rattle.lower.specs.declared.numbering.Shape.{Shape}
-use Rattle.lower.specs.declared.served.Served.{Served}
-use Rattle.lower.specs.Numbering.{own_word, local_word}
-use Rattle.lower.specs.Emit.{Then, ToCaller, Into}
+use Rattle.lowered_code.specs.declared.numbering.Shape.{Shape}
+use Rattle.lowered_code.specs.declared.served.Served.{Served}
+use Rattle.lowered_code.specs.Numbering.{own_word, local_word}
+use Rattle.lowered_code.specs.Emit.{Then, ToCaller, Into}
 use Rattle.lower.specs.Relation.{Carried, OwnGroup, Knows, Waits, Rest, Callers}
 use Rattle.std.specs.Prelude.{slice_get}
 use Rattle.lower.proofs.heap.CarriedLater.{group_grown, grown, all_grown}

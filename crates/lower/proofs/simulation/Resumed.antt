@@ -26,7 +26,8 @@ use Rattle.low_ir.specs.Prices.{low_price}
 use Rattle.run_laws.specs.Runs.{Ending}
 use Rattle.grift_base.specs.declared.verdicts.Verdict.{Verdict}
 use Rattle.std.proofs.Common.{◌+◌, ◌*◌, ap, Option, None, le_refl}
-use Rattle.lower.proofs.simulation.Way.{Program, N, mode_of, next_state, after_wraps, Settled, size_of, frames_weight}
+use Rattle.lower.proofs.simulation.Way.{Program, N, mode_of, next_state, after_wraps, Settled, size_of}
+use Rattle.lower.proofs.simulation.Way.{frames_weight}
 use Rattle.lower.proofs.simulation.Way.{room_over, stays_in, cost_of, budget_of, dues, due_of, waiting_dues}
 use Rattle.lower.proofs.simulation.Way.{zero_once_ended}
 use Rattle.lower.proofs.simulation.Gives.{CarriedHere, CallersHere}

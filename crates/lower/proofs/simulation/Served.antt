@@ -29,7 +29,8 @@ use Rattle.machine_words.specs.Halts.{ending_of}
 use Rattle.cast_modes.specs.Prices.{Cost}
 use Rattle.lower.proofs.simulation.Way.{Program, after_wraps, mode_of, N, Seen, Over, Settled}
 use Rattle.lower.proofs.simulation.Way.{wrong_over, stopped_over}
-use Rattle.lower.proofs.simulation.Way.{next_state, turn_of, size_of, over_price, zero_once_ended, dues, asks_of}
+use Rattle.lower.proofs.simulation.Way.{next_state, turn_of, size_of, over_price, zero_once_ended, dues}
+use Rattle.lower.proofs.simulation.Way.{asks_of}
 use Rattle.lower.proofs.simulation.Way.{budget_of, cost_of, unless_ended, focus_weight, frames_weight}
 
 -- nothing is asked until the end

@@ -17,13 +17,13 @@ use Rattle.flat_ir.specs.declared.code.Operand.{Operand}
 use Rattle.flat_ir.specs.Closed.{operands_bound}
 use Rattle.flat_ir.specs.Machine.{FlatValue, FlatAfter, FlatState, Group, values}
 use Rattle.flat_ir.specs.Machine.{Locals as FlatLocals}
-use Rattle.lower.specs.declared.numbering.Shape.{Shape}
+use Rattle.lowered_code.specs.declared.numbering.Shape.{Shape}
 use Rattle.lower.specs.Meanings.{IsWrapper}
 use Rattle.object_layout.specs.Words.{kind_mask}
 use Rattle.rt_cast.specs.States.{Heap}
 use Rattle.lower.specs.Storage.{Filled}
-use Rattle.lower.specs.Numbering.{operand_word, test_word}
-use Rattle.lower.specs.Emit.{fetch_all, found_all, of_kind}
+use Rattle.lowered_code.specs.Numbering.{operand_word, test_word}
+use Rattle.lowered_code.specs.Emit.{fetch_all, found_all, of_kind}
 use Rattle.lower.specs.CarriedValues.{CarriedIn, AreCarried}
 use Rattle.lower.specs.Relation.{Knows}
 use Rattle.lower.proofs.heap.Filled.{WordThere, header_there}
@@ -32,7 +32,8 @@ use Rattle.lower.proofs.words.Arithmetic.{header_is, kind_read}
 use Rattle.lower.proofs.words.Steps.{at, Comes, Calm, Goal, loads_first, computes, if_false}
 use Rattle.lower.proofs.words.Operands.{fetch_all_reads, Changes, ChangesFrom}
 use Rattle.lower.proofs.simulation.Way.{Program, room_over, stays_in}
-use Rattle.lower.proofs.simulation.Services.{OnTurn, Calling, calling_goal, some_calls, later_calls, starts_now}
+use Rattle.lower.proofs.simulation.Services.{OnTurn, Calling, calling_goal, some_calls, later_calls}
+use Rattle.lower.proofs.simulation.Services.{starts_now}
 use Rattle.lower.proofs.simulation.Casts.{serving_scene, as_it_was}
 
 -- what carries a value in wrappers is one

@@ -37,13 +37,14 @@ use Rattle.low_ir.specs.Steps.{may_load}
 use Rattle.coercion_norm.specs.Coercions.{rows_of}
 use Rattle.coercion_norm.specs.Held.{TypesStand, There, HoldsType, type_object, rows_in, height_in}
 use Rattle.coercion_norm.specs.ObjectsOfRows.{header, type_kind}
-use Rattle.lower.specs.Lowered.{show_kept, open_object, open_small}
+use Rattle.lowered_code.specs.Lowered.{show_kept, open_object, open_small}
 use Rattle.object_layout.specs.Words.{kind_mask}
 use Rattle.rt_cast.specs.DynWords.{small_dyn, IsDynBy}
 use Rattle.rt_cast.proofs.Public.{SmallIs, small_is, tag_read, no_tag, untagged, eq_false, type_numbers}
 use Rattle.lower.proofs.heap.Objects.{dyn_header}
 use Rattle.lower.proofs.heap.Filled.{stands, word_there, header_there}
-use Rattle.lower.proofs.words.Steps.{Comes, Calm, Goal, here, loads, computes, if_true, if_false, falls_through}
+use Rattle.lower.proofs.words.Steps.{Comes, Calm, Goal, here, loads, computes, if_true, if_false}
+use Rattle.lower.proofs.words.Steps.{falls_through}
 use Rattle.lower.proofs.words.Steps.{left_of}
 use Rattle.lower.proofs.words.Credits.{by_go}
 use Rattle.lower.proofs.words.Services.{return_price}
@@ -56,7 +57,7 @@ use Rattle.coercion_norm.specs.Objects.{Object, Fixed}
 use Rattle.low_ir.specs.Frames.{frame_room, waiting_room}
 use Rattle.rt_cast.specs.States.{Heap}
 use Rattle.lower.specs.Storage.{Filled}
-use Rattle.lower.specs.Lowered.{show_by, ends}
+use Rattle.lowered_code.specs.Lowered.{show_by, ends}
 use Rattle.lower.specs.Relation.{entry_waiting}
 use Rattle.lower.proofs.words.Steps.{at}
 use Rattle.lower.proofs.words.Arithmetic.{word_read}

@@ -13,9 +13,9 @@ use Rattle.cast_modes.specs.ValueSteps.{casts_onto}
 use Rattle.flat_ir.specs.Bodies.{Proc}
 use Rattle.flat_ir.specs.Machine.{FlatFrame, FlatFocus, FlatState, Group, Inside, Waiting}
 use Rattle.low_ir.specs.Frames.{frame_room, waiting_room, stack_room}
-use Rattle.lower.specs.declared.numbering.Shape.{Shape}
-use Rattle.lower.specs.declared.served.Served.{Served}
-use Rattle.lower.specs.Emit.{Then, ToCaller, Into}
+use Rattle.lowered_code.specs.declared.numbering.Shape.{Shape}
+use Rattle.lowered_code.specs.declared.served.Served.{Served}
+use Rattle.lowered_code.specs.Emit.{Then, ToCaller, Into}
 use Rattle.lower.specs.Meanings.{Meaning}
 use Rattle.lower.specs.Relation.{Rest, Callers, Goes, Related}
 use Rattle.lower.proofs.words.Stops.{Sized, WaitingSized, frame_most}

@@ -14,7 +14,7 @@ use Rattle.flat_ir.specs.Levels.{levels}
 use Rattle.flat_ir.specs.Machine.{FlatState, Inside, first_world, flat_state_at, new_group}
 use Rattle.rt_cast.specs.Objects.{Holds}
 use Rattle.rt_cast.specs.States.{Heap}
-use Rattle.lower.specs.Lowered.{low_proc, entry_proc}
+use Rattle.lowered_code.specs.Lowered.{low_proc, entry_proc}
 use Rattle.lower.specs.Relation.{entry_waiting}
 use Rattle.lower.specs.Storage.{Filled}
 use Rattle.lower.proofs.simulation.Way.{Program, Live, N, after_wraps}

@@ -12,11 +12,11 @@ use Rattle.coercion_norm.specs.Held.{TypesStand}
 use Rattle.coercion_norm.specs.Objects.{Object}
 use Rattle.flat_ir.specs.Machine.{FlatValue, FlatFrame, FlatFocus, FlatAfter, FlatState, FlatStore, Group}
 use Rattle.flat_ir.specs.Machine.{flat_state_at}
-use Rattle.lower.specs.declared.numbering.Shape.{Shape}
+use Rattle.lowered_code.specs.declared.numbering.Shape.{Shape}
 use Rattle.low_ir.specs.Frames.{frame_room, waiting_room, stack_room}
 use Rattle.rt_cast.specs.States.{Heap, heap_of}
 use Rattle.lower.specs.Storage.{Filled}
-use Rattle.lower.specs.Emit.{Then}
+use Rattle.lowered_code.specs.Emit.{Then}
 use Rattle.lower.specs.SchemeLaws.{Here, OnWay, After, Goes, GivesInPlace, cast_leaves}
 use Rattle.lower.proofs.simulation.RelationKept.{word_here, word_other}
 use Rattle.lower.proofs.words.Steps.{at, lt_true}
@@ -27,11 +27,13 @@ use Rattle.std.specs.Prelude.{◌-◌}
 use Rattle.run_laws.specs.Runs.{Ending}
 use Rattle.grift_base.specs.declared.verdicts.Verdict.{Verdict}
 use Rattle.lower.proofs.words.Operations.{Touches}
-use Rattle.lower.proofs.simulation.Way.{Program, after_wraps, N, Settled, next_state, asks_of, budget_of, cost_of}
+use Rattle.lower.proofs.simulation.Way.{Program, after_wraps, N, Settled, next_state, asks_of, budget_of}
+use Rattle.lower.proofs.simulation.Way.{cost_of}
 use Rattle.lower.proofs.simulation.Way.{room_over, stays_in, due_of, due_most, waiting_dues, zero_once_ended}
 use Rattle.lower.proofs.simulation.Gives.{CarriedHere, RestHere, given, word_for, code_for, due_for}
 use Rattle.lower.proofs.simulation.Operations.{returned, due_little}
-use Rattle.lower.proofs.simulation.Served.{OnServed, Waits, Lands, SettledWith, served_on, next_more, until_ended}
+use Rattle.lower.proofs.simulation.Served.{OnServed, Waits, Lands, SettledWith, served_on, next_more}
+use Rattle.lower.proofs.simulation.Served.{until_ended}
 use Rattle.lower.proofs.simulation.Services.{OnTurn, Landing, landing}
 
 module _ (program : Program) (typed : TypesStand program.l) (f : FlatState program.meaning.Cast) (places : List ℕ)

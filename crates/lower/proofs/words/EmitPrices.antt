@@ -21,19 +21,21 @@ use Rattle.flat_ir.specs.declared.code.Operation.{Operation}
 use Rattle.flat_ir.specs.declared.code.Operation.TheVariants.{Move, Prim, Cast, Tuple, Proj, ProjDyn}
 use Rattle.object_layout.specs.declared.kinds.Kind.TheVariants.{Boxed, Tuple as TupleKind, Closure}
 use Rattle.object_layout.specs.Kinds.{kind_number}
-use Rattle.lower.specs.declared.numbering.Shape.{Shape}
-use Rattle.lower.specs.declared.served.CastWay.{CastWay}
-use Rattle.lower.specs.declared.served.CastWay.TheVariants.{Called, IntoDyn, OutOfDyn}
-use Rattle.lower.specs.declared.served.Served.{Served}
-use Rattle.lower.specs.declared.served.Tag.{Tag}
-use Rattle.lower.specs.declared.served.Tag.TheVariants.{Int as IntTag, Bool as BoolTag, Unit as UnitTag}
-use Rattle.lower.specs.CastWays.{tag_number, way_at}
-use Rattle.lower.specs.Numbering.{own_word, operand_word, test_word, local_word, function_offset, captured_offset}
-use Rattle.lower.specs.Emit.{header, cast_word, load_far, store_far, leader_code, leader, fetch, found, fetch_all}
-use Rattle.lower.specs.Emit.{found_all, of_kind, source_at, operator, part, call_cast}
-use Rattle.lower.specs.Emit.{make_cast, perform, store_captured, store_others, name_others, group_words}
-use Rattle.lower.specs.Emit.{group_code, apply_words, call_bare, call, call_by, Then, ToCaller, Into, emit}
-use Rattle.lower.specs.Emit.{choose, is_sibling}
+use Rattle.lowered_code.specs.declared.numbering.Shape.{Shape}
+use Rattle.lowered_code.specs.declared.served.CastWay.{CastWay}
+use Rattle.lowered_code.specs.declared.served.CastWay.TheVariants.{Called, IntoDyn, OutOfDyn}
+use Rattle.lowered_code.specs.declared.served.Served.{Served}
+use Rattle.lowered_code.specs.declared.served.Tag.{Tag}
+use Rattle.lowered_code.specs.declared.served.Tag.TheVariants.{Int as IntTag, Bool as BoolTag, Unit as UnitTag}
+use Rattle.lowered_code.specs.CastWays.{tag_number, way_at}
+use Rattle.lowered_code.specs.Numbering.{own_word, operand_word, test_word, local_word, function_offset}
+use Rattle.lowered_code.specs.Numbering.{captured_offset}
+use Rattle.lowered_code.specs.Emit.{header, cast_word, load_far, store_far, leader_code, leader, fetch, found}
+use Rattle.lowered_code.specs.Emit.{fetch_all}
+use Rattle.lowered_code.specs.Emit.{found_all, of_kind, source_at, operator, part, call_cast}
+use Rattle.lowered_code.specs.Emit.{make_cast, perform, store_captured, store_others, name_others, group_words}
+use Rattle.lowered_code.specs.Emit.{group_code, apply_words, call_bare, call, call_by, Then, ToCaller, Into, emit}
+use Rattle.lowered_code.specs.Emit.{choose, is_sibling}
 use Rattle.flat_ir.specs.Bodies.{Body, Call as BodyCall, Choose, LetGroup}
 use Rattle.lower.specs.Meanings.{is_last}
 

@@ -24,10 +24,10 @@ use Rattle.rt_cast.specs.Objects.{HoldsWords}
 use Rattle.coercion_norm.specs.ObjectsOfRows.{header}
 use Rattle.low_ir.specs.Frames.{frame_room, waiting_room}
 use Rattle.rt_cast.specs.States.{Heap}
-use Rattle.lower.specs.declared.numbering.Shape.{Shape}
-use Rattle.lower.specs.Numbering.{operand_word, test_word, local_word, function_offset, captured_offset}
-use Rattle.lower.specs.Emit.{found, store_far, store_captured, store_others, name_others, group_words}
-use Rattle.lower.specs.Emit.{make_group, header as word_header}
+use Rattle.lowered_code.specs.declared.numbering.Shape.{Shape}
+use Rattle.lowered_code.specs.Numbering.{operand_word, test_word, local_word, function_offset, captured_offset}
+use Rattle.lowered_code.specs.Emit.{found, store_far, store_captured, store_others, name_others, group_words}
+use Rattle.lowered_code.specs.Emit.{make_group, header as word_header}
 use Rattle.lower.specs.CarriedValues.{IsMember, IsGroup}
 use Rattle.lower.proofs.heap.Objects.{stored_behind, closure_header}
 use Rattle.lower.proofs.heap.Filled.{filled_above, filled_more}
@@ -35,12 +35,15 @@ use Rattle.lower.proofs.heap.Groups.{other_words, group_objects, group_holds, gr
 use Rattle.lower.proofs.heap.Groups.{leader_added, other_added}
 use Rattle.lower.proofs.heap.CarriedLater.{as_many, carried_small, later, all_later}
 use Rattle.lower.proofs.words.Arithmetic.{header_word, header_small}
-use Rattle.lower.proofs.words.Steps.{at, Calm, computes, stores, code_addresses, requests, takes, lt_true, le_true}
+use Rattle.lower.proofs.words.Steps.{at, Calm, computes, stores, code_addresses, requests, takes, lt_true}
+use Rattle.lower.proofs.words.Steps.{le_true}
 use Rattle.lower.proofs.words.Steps.{le_false}
 use Rattle.lower.proofs.words.Scene.{Scene, Carries, CarryAll, Arrives, Fills}
-use Rattle.lower.proofs.simulation.RelationKept.{word_here, word_other, Named, SameNamed, same_then, local_high, IsFree}
+use Rattle.lower.proofs.simulation.RelationKept.{word_here, word_other, Named, SameNamed, same_then}
+use Rattle.lower.proofs.simulation.RelationKept.{local_high, IsFree}
 use Rattle.lower.proofs.simulation.RelationKept.{Between}
-use Rattle.lower.proofs.simulation.RelationKept.{Behind, set_named, free_other, knows_same, OwnName, LowName, HighName}
+use Rattle.lower.proofs.simulation.RelationKept.{Behind, set_named, free_other, knows_same, OwnName, LowName}
+use Rattle.lower.proofs.simulation.RelationKept.{HighName}
 use Rattle.lower.proofs.simulation.RelationKept.{named_local}
 use Rattle.lower.proofs.words.Operands.{Changes, KnowsHere, fetch_reads, and_true, added, found_same}
 

@@ -26,15 +26,17 @@ use Rattle.flat_ir.specs.Machine.{Group, Locals as FlatLocals, value, values}
 use Rattle.coercion_norm.specs.Objects.{Object}
 use Rattle.low_ir.specs.Frames.{frame_room, waiting_room}
 use Rattle.rt_cast.specs.States.{Heap}
-use Rattle.lower.specs.declared.numbering.Shape.{Shape}
-use Rattle.lower.specs.Numbering.{own_word, operand_word, test_word, local_word, function_offset, captured_offset}
-use Rattle.lower.specs.Emit.{load_far, leader_code, leader, fetch, found, fetch_all, found_all}
+use Rattle.lowered_code.specs.declared.numbering.Shape.{Shape}
+use Rattle.lowered_code.specs.Numbering.{own_word, operand_word, test_word, local_word, function_offset}
+use Rattle.lowered_code.specs.Numbering.{captured_offset}
+use Rattle.lowered_code.specs.Emit.{load_far, leader_code, leader, fetch, found, fetch_all, found_all}
 use Rattle.lower.specs.Relation.{OwnGroup, Knows}
 use Rattle.lower.proofs.heap.Filled.{WordThere, word_there}
 use Rattle.lower.proofs.heap.CarriedLater.{carried_at, function_small}
 use Rattle.lower.proofs.words.Steps.{at, Calm, computes, loads}
 use Rattle.lower.proofs.words.Scene.{Scene, Carries, CarryAll, Arrives, Fills}
-use Rattle.lower.proofs.simulation.RelationKept.{word_here, word_other, Named, OwnName, LowName, HighName, named_local}
+use Rattle.lower.proofs.simulation.RelationKept.{word_here, word_other, Named, OwnName, LowName, HighName}
+use Rattle.lower.proofs.simulation.RelationKept.{named_local}
 use Rattle.lower.proofs.simulation.RelationKept.{SameNamed}
 use Rattle.lower.proofs.simulation.RelationKept.{knows_same}
 

@@ -27,19 +27,22 @@ use Rattle.coercion_norm.specs.Objects.{Object, Fixed, bytes_of, bytes_of_all, o
 use Rattle.object_layout.specs.Words.{kind_mask}
 use Rattle.low_ir.specs.Frames.{frame_room, waiting_room}
 use Rattle.rt_cast.specs.States.{Heap}
-use Rattle.lower.specs.declared.numbering.Shape.{Shape}
-use Rattle.lower.specs.Numbering.{operand_word, test_word}
-use Rattle.lower.specs.Emit.{found, found_all, of_kind, part, perform}
-use Rattle.lower.specs.Emit.{header as word_header}
+use Rattle.lowered_code.specs.declared.numbering.Shape.{Shape}
+use Rattle.lowered_code.specs.Numbering.{operand_word, test_word}
+use Rattle.lowered_code.specs.Emit.{found, found_all, of_kind, part, perform}
+use Rattle.lowered_code.specs.Emit.{header as word_header}
 use Rattle.lower.proofs.heap.Objects.{object_behind, stored_words, bytes_below, tuple_header}
 use Rattle.lower.proofs.heap.Filled.{WordThere, word_there, header_there, filled_more, filled_above, in_list}
 use Rattle.lower.proofs.heap.CarriedLater.{as_many, all_small, part_carried, all_later}
 use Rattle.lower.proofs.words.Arithmetic.{header_word, header_small, kind_read, header_is}
-use Rattle.lower.proofs.words.Steps.{at, Calm, sets_word, computes, loads, builds, if_true, falls_through, lt_true}
+use Rattle.lower.proofs.words.Steps.{at, Calm, sets_word, computes, loads, builds, if_true, falls_through}
+use Rattle.lower.proofs.words.Steps.{lt_true}
 use Rattle.lower.proofs.words.Steps.{Moves, loads_first, comes_on}
 use Rattle.lower.proofs.words.Scene.{Scene, Carries, CarryAll, Arrives, Fills}
-use Rattle.lower.proofs.simulation.RelationKept.{word_here, word_other, Named, OwnName, LowName, HighName, SameNamed}
-use Rattle.lower.proofs.words.Operands.{Changes, ChangesFrom, KnowsHere, fetch_reads, fetch_all_reads, and_true}
+use Rattle.lower.proofs.simulation.RelationKept.{word_here, word_other, Named, OwnName, LowName, HighName}
+use Rattle.lower.proofs.simulation.RelationKept.{SameNamed}
+use Rattle.lower.proofs.words.Operands.{Changes, ChangesFrom, KnowsHere, fetch_reads, fetch_all_reads}
+use Rattle.lower.proofs.words.Operands.{and_true}
 use Rattle.lower.proofs.words.Operands.{found_same}
 
 -- all words but one and those to compute in are the same

@@ -27,11 +27,12 @@ use Rattle.flat_ir.specs.Machine.{FlatValue, Group, Locals as FlatLocals, value,
 use Rattle.coercion_norm.specs.Objects.{Object}
 use Rattle.low_ir.specs.Frames.{frame_room, waiting_room}
 use Rattle.rt_cast.specs.States.{Heap}
-use Rattle.lower.specs.declared.numbering.Shape.{Shape}
-use Rattle.lower.specs.Numbering.{operand_word, test_word}
-use Rattle.lower.specs.Emit.{found, fetch_all, found_all, turned, read_number}
+use Rattle.lowered_code.specs.declared.numbering.Shape.{Shape}
+use Rattle.lowered_code.specs.Numbering.{operand_word, test_word}
+use Rattle.lowered_code.specs.Emit.{found, fetch_all, found_all, turned, read_number}
 use Rattle.lower.proofs.heap.Objects.{none_some, same_some}
-use Rattle.lower.proofs.words.Arithmetic.{sum_made, difference_made, less_made, turned_made, equal_made, wraps_once}
+use Rattle.lower.proofs.words.Arithmetic.{sum_made, difference_made, less_made, turned_made, equal_made}
+use Rattle.lower.proofs.words.Arithmetic.{wraps_once}
 use Rattle.lower.proofs.words.Arithmetic.{word_read}
 use Rattle.std.proofs.Common.{pos, mod-eq_of_lt}
 use Rattle.std.specs.Prelude.{◌*ℤ◌, int_rem}
@@ -44,11 +45,13 @@ use Rattle.machine_words.specs.Halts.{ending_of}
 use Rattle.low_ir.specs.Procedures.{Call}
 use Rattle.rt_refs.specs.Answering.{AnswersFor, TrapsNext}
 use Rattle.lower.specs.SimulationServices.{AnswerProducts}
-use Rattle.lower.proofs.words.Arithmetic.{word_small, product_made, quotient_wraps, remainder_wraps, no_divisor}
+use Rattle.lower.proofs.words.Arithmetic.{word_small, product_made, quotient_wraps, remainder_wraps}
+use Rattle.lower.proofs.words.Arithmetic.{no_divisor}
 use Rattle.lower.proofs.words.Arithmetic.{some_divisor}
 use Rattle.lower.proofs.words.Services.{CalmServing, answered_by, traps_by}
 use Rattle.lower.proofs.words.Steps.{waiting_for}
-use Rattle.lower.proofs.words.Steps.{lt_true, at, Calm, sets_word, computes, environment_goes, if_true, if_false}
+use Rattle.lower.proofs.words.Steps.{lt_true, at, Calm, sets_word, computes, environment_goes, if_true}
+use Rattle.lower.proofs.words.Steps.{if_false}
 use Rattle.lower.proofs.words.Steps.{falls_through, Comes, plain}
 use Rattle.low_ir.specs.Prices.{code_price, codes_price}
 use Rattle.lower.specs.SimulationServices.{product_price}

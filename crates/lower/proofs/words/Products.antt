@@ -6,7 +6,7 @@ use Rattle.rt_refs.specs.Products.{product_loop, multiply}
 use Rattle.rt_refs.specs.Quotients.{quotient_loop, divide}
 use Rattle.rt_refs.proofs.Public.{products_are_answered, quotients_are_answered, remainders_are_answered}
 use Rattle.rt_refs.proofs.Public.{zero_divisors_trap}
-use Rattle.lower.specs.declared.served.Served.{Served}
+use Rattle.lowered_code.specs.declared.served.Served.{Served}
 use Rattle.lower.specs.SimulationServices.{AnswerProducts}
 use Rattle.lower.proofs.words.Standing.{stands_as}
 

@@ -14,8 +14,8 @@ use Rattle.coercion_norm.specs.Held.{Layout}
 use Rattle.low_ir.specs.Frames.{frame_room, waiting_room}
 use Rattle.rt_cast.specs.States.{Placed, Heap}
 use Rattle.lower.specs.Storage.{Filled}
-use Rattle.lower.specs.declared.served.Served.{Served}
-use Rattle.lower.specs.Lowered.{low_proc}
+use Rattle.lowered_code.specs.declared.served.Served.{Served}
+use Rattle.lowered_code.specs.Lowered.{low_proc}
 use Rattle.lower.specs.Following.{Serving}
 use Rattle.lower.specs.SimulationClaims.{AreNarrow, AreCodeAddresses}
 use Rattle.lower.specs.CarriedValues.{IsCarried, AreCarried, CellsHeld}

@@ -25,7 +25,8 @@ use Rattle.low_ir.specs.Run.{Setting, Waiting, LowState, LowShown, word_of, word
 use Rattle.low_ir.specs.Run.{low_machine, load, store, sets}
 use Rattle.low_ir.specs.Prices.{step_price, code_price, codes_price, left_to_pay, low_price}
 use Rattle.rt_cast.specs.States.{Heap}
-use Rattle.lower.proofs.words.Credits.{By, SomeBy, by_now, by_go, by_stop, by_more, by_then_some, some_more, some_go}
+use Rattle.lower.proofs.words.Credits.{By, SomeBy, by_now, by_go, by_stop, by_more, by_then_some, some_more}
+use Rattle.lower.proofs.words.Credits.{some_go}
 
 pub plus_is : (x n : ℕ) → x + n < 2 ^ 64 → plus x (pos n) ≡ x + n
 plus_is x n h = grind arith

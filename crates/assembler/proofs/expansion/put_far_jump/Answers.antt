@@ -6,16 +6,16 @@ use Rattle.assembler.proofs.expansion.put_far_jump.Goals as goal
 
 pub returns-clause-words : goal.returns-clause-words
 returns-clause-words c =
-    ok_more c.put_all-2.result
-    (put_two (far_insts c.args.target) (Jalr c.args.rd 31 (pos 0) ∷ []) c.far_address.result
-    (Jalr c.args.rd c.scratch.result c.new.result ∷ []) c.args.words.now c.put_all.new.words c.put_all-2.new.words
-    c.far_address.ensures (rw (c.scratch.ensures, c.new.ensures) refl) c.in_ok-put_all.ensures.words)
-    c.put_all-2.ensures.words
+    ok_more c.put_one.result
+    (put_two (far_insts c.args.target) (Jalr c.args.rd 31 (pos 0) ∷ []) (far_insts c.args.target)
+    (Jalr c.args.rd c.scratch.result c.new.result ∷ []) c.args.words.now c.put_scratch.new.words c.put_one.new.words
+    refl (rw (c.scratch.ensures, c.new.ensures) refl) c.in_ok-put_scratch.ensures.words)
+    c.put_one.ensures.words
 
 pub returns-clause-decode : goal.returns-clause-decode
 returns-clause-decode c =
-    ok_more c.put_all-2.result
-    (decode_two (far_insts c.args.target) (Jalr c.args.rd 31 (pos 0) ∷ []) c.far_address.result
-    (Jalr c.args.rd c.scratch.result c.new.result ∷ []) c.far_address.ensures
-    (rw (c.scratch.ensures, c.new.ensures) refl) c.in_ok-put_all.ensures.decode)
-    c.put_all-2.ensures.decode
+    ok_more c.put_one.result
+    (decode_two (far_insts c.args.target) (Jalr c.args.rd 31 (pos 0) ∷ []) (far_insts c.args.target)
+    (Jalr c.args.rd c.scratch.result c.new.result ∷ []) refl (rw (c.scratch.ensures, c.new.ensures) refl)
+    c.in_ok-put_scratch.ensures.decode)
+    c.put_one.ensures.decode

@@ -10,6 +10,7 @@ use Rattle.core_calc.specs.declared.terms.CoreList.{the_lemmas as terms_lemmas}
 use Rattle.core_calc.specs.declared.terms.GroupMembers.{the_lemmas as members_lemmas}
 use Rattle.core_calc.specs.declared.terms.Values.{the_lemmas as values_lemmas}
 use Rattle.calc_stepper.specs.Lists.{bindings_onto, members_onto, terms_onto, values_onto}
+use Rattle.calc_stepper.proofs.Gathering.{term_boxed}
 use Rattle.calc_stepper.proofs.copies.+copies.Goals as goal
 
 -- each copy is of the form of what was copied, with copies of its parts
@@ -23,55 +24,66 @@ member_copied rest p q r s = λ i. MemberThen (p i) (q i) (r i) (s i) rest
 
 pub copy_term-returns-in_ok-params-in-Lambda : goal.copy_term-returns-in_ok-params-in-Lambda
 copy_term-returns-in_ok-params-in-Lambda t c =
-    ap₂ (λ names body. Lambda (names_of names) body c.in-Lambda.ty.0) c.in_ok-params-in-Lambda.ensures.0
-    (c.in_ok-params-in-Lambda.ensures.1 ∙ ap term_of c.deref.ensures) ∙ sym (ap term_of c.in-Lambda.is)
+    term_boxed _ _ _ c.boxed-in-Lambda.ensures
+    (ap₂ (λ names body. Lambda (names_of names) body c.in-Lambda.ty.0) c.in_ok-params-in-Lambda.ensures.0
+    (c.in_ok-params-in-Lambda.ensures.1 ∙ ap term_of c.deref.ensures) ∙ sym (ap term_of c.in-Lambda.is))
 
-pub copy_term-returns-in_ok-copy_terms-in-Seq : goal.copy_term-returns-in_ok-copy_terms-in-Seq
-copy_term-returns-in_ok-copy_terms-in-Seq t c =
-    ap Seq c.in_ok-copy_terms-in-Seq.ensures ∙ sym (ap term_of c.in-Seq.is)
+pub copy_term-returns-in_ok-terms-in-Seq : goal.copy_term-returns-in_ok-terms-in-Seq
+copy_term-returns-in_ok-terms-in-Seq t c =
+    term_boxed _ _ _ c.boxed-in-Seq.ensures
+    (ap Seq c.in_ok-terms-in-Seq.ensures ∙ sym (ap term_of c.in-Seq.is))
 
 pub copy_term-returns-in_ok-term-in-Cast : goal.copy_term-returns-in_ok-term-in-Cast
 copy_term-returns-in_ok-term-in-Cast t c =
-    ap (λ x. Cast x c.in-Cast.from.0 c.in-Cast.to.0 c.in-Cast.label.0)
-    (c.in_ok-term-in-Cast.ensures ∙ ap term_of c.deref-in-Cast.ensures) ∙ sym (ap term_of c.in-Cast.is)
+    term_boxed _ _ _ c.boxed-in-Cast.ensures
+    (ap (λ x. Cast x c.in-Cast.from.0 c.in-Cast.to.0 c.in-Cast.label.0)
+    (c.in_ok-term-in-Cast.ensures ∙ ap term_of c.deref-in-Cast.ensures) ∙ sym (ap term_of c.in-Cast.is))
 
-pub copy_term-returns-in_ok-copy_terms-in-Tuple : goal.copy_term-returns-in_ok-copy_terms-in-Tuple
-copy_term-returns-in_ok-copy_terms-in-Tuple t c =
-    ap Tuple c.in_ok-copy_terms-in-Tuple.ensures ∙ sym (ap term_of c.in-Tuple.is)
+pub copy_term-returns-in_ok-parts-in-Tuple : goal.copy_term-returns-in_ok-parts-in-Tuple
+copy_term-returns-in_ok-parts-in-Tuple t c =
+    term_boxed _ _ _ c.boxed-in-Tuple.ensures
+    (ap Tuple c.in_ok-parts-in-Tuple.ensures ∙ sym (ap term_of c.in-Tuple.is))
 
 pub copy_term-returns-in_ok-operands-in-Prim : goal.copy_term-returns-in_ok-operands-in-Prim
 copy_term-returns-in_ok-operands-in-Prim t c =
-    ap (Prim c.in-Prim.operator) c.in_ok-operands-in-Prim.ensures ∙ sym (ap term_of c.in-Prim.is)
+    term_boxed _ _ _ c.boxed-in-Prim.ensures
+    (ap (Prim c.in-Prim.operator) c.in_ok-operands-in-Prim.ensures ∙ sym (ap term_of c.in-Prim.is))
 
-pub copy_term-returns-in_ok-copy_value-in-Value : goal.copy_term-returns-in_ok-copy_value-in-Value
-copy_term-returns-in_ok-copy_value-in-Value t c =
-    ap ValueTerm c.in_ok-copy_value-in-Value.ensures ∙ sym (ap term_of c.in-Value.is)
+pub copy_term-returns-in_ok-v-in-Value : goal.copy_term-returns-in_ok-v-in-Value
+copy_term-returns-in_ok-v-in-Value t c =
+    term_boxed _ _ _ c.boxed-in-Value.ensures
+    (ap ValueTerm c.in_ok-v-in-Value.ensures ∙ sym (ap term_of c.in-Value.is))
 
 pub copy_joined-returns-in_ok-body-in-Group : goal.copy_joined-returns-in_ok-body-in-Group
 copy_joined-returns-in_ok-body-in-Group t c =
-    ap₂ Group c.in_ok-members-in-Group.ensures (c.in_ok-body-in-Group.ensures ∙ ap term_of c.deref.ensures)
-    ∙ sym (ap term_of c.in-Group.is)
+    term_boxed _ _ _ c.boxed.ensures
+    (ap₂ Group c.in_ok-members-in-Group.ensures (c.in_ok-body-in-Group.ensures ∙ ap term_of c.deref.ensures)
+    ∙ sym (ap term_of c.in-Group.is))
 
 pub copy_joined-returns-in_ok-body-in-Let : goal.copy_joined-returns-in_ok-body-in-Let
 copy_joined-returns-in_ok-body-in-Let t c =
-    ap₂ Let c.in_ok-bindings-in-Let.ensures (c.in_ok-body-in-Let.ensures ∙ ap term_of c.deref-in-Let.ensures)
-    ∙ sym (ap term_of c.in-Let.is)
+    term_boxed _ _ _ c.boxed-in-Let.ensures
+    (ap₂ Let c.in_ok-bindings-in-Let.ensures (c.in_ok-body-in-Let.ensures ∙ ap term_of c.deref-in-Let.ensures)
+    ∙ sym (ap term_of c.in-Let.is))
 
 pub copy_joined-returns-in_ok-arguments-in-Call : goal.copy_joined-returns-in_ok-arguments-in-Call
 copy_joined-returns-in_ok-arguments-in-Call t c =
-    ap₂ Call (c.in_ok-function-in-Call.ensures ∙ ap term_of c.deref-in-Call.ensures)
-    c.in_ok-arguments-in-Call.ensures ∙ sym (ap term_of c.in-Call.is)
+    term_boxed _ _ _ c.boxed-in-Call.ensures
+    (ap₂ Call (c.in_ok-function-in-Call.ensures ∙ ap term_of c.deref-in-Call.ensures)
+    c.in_ok-arguments-in-Call.ensures ∙ sym (ap term_of c.in-Call.is))
 
 pub copy_joined-returns-in_ok-arguments-in-Enter : goal.copy_joined-returns-in_ok-arguments-in-Enter
 copy_joined-returns-in_ok-arguments-in-Enter t c =
-    ap₂ Enter (c.in_ok-function-in-Enter.ensures ∙ ap term_of c.deref-in-Enter.ensures)
-    c.in_ok-arguments-in-Enter.ensures ∙ sym (ap term_of c.in-Enter.is)
+    term_boxed _ _ _ c.boxed-in-Enter.ensures
+    (ap₂ Enter (c.in_ok-function-in-Enter.ensures ∙ ap term_of c.deref-in-Enter.ensures)
+    c.in_ok-arguments-in-Enter.ensures ∙ sym (ap term_of c.in-Enter.is))
 
 pub copy_joined-returns-in_ok-on_false-in-If : goal.copy_joined-returns-in_ok-on_false-in-If
 copy_joined-returns-in_ok-on_false-in-If t c =
-    if_copied (c.in_ok-condition-in-If.ensures ∙ ap term_of c.deref-in-If.ensures)
+    term_boxed _ _ _ c.boxed-in-If.ensures
+    (if_copied (c.in_ok-condition-in-If.ensures ∙ ap term_of c.deref-in-If.ensures)
     (c.in_ok-on_true-in-If.ensures ∙ ap term_of c.deref-in-If-2.ensures)
-    (c.in_ok-on_false-in-If.ensures ∙ ap term_of c.deref-in-If-3.ensures) ∙ sym (ap term_of c.in-If.is)
+    (c.in_ok-on_false-in-If.ensures ∙ ap term_of c.deref-in-If-3.ensures) ∙ sym (ap term_of c.in-If.is))
 
 pub copy_value-returns-in_ok-params-in-Fun : goal.copy_value-returns-in_ok-params-in-Fun
 copy_value-returns-in_ok-params-in-Fun t c =
@@ -98,13 +110,19 @@ copy_value-returns-in_ok-v-in-Inject t c =
     ∙ sym (ap value_of c.in-Inject.is)
 
 pub copy_term-returns-in-Bool : goal.copy_term-returns-in-Bool
-copy_term-returns-in-Bool t c = sym (ap term_of c.in-Bool.is)
+copy_term-returns-in-Bool t c =
+    term_boxed _ _ _ c.boxed-in-Bool.ensures
+    (sym (ap term_of c.in-Bool.is))
 
 pub copy_term-returns-in-Unit : goal.copy_term-returns-in-Unit
-copy_term-returns-in-Unit t c = sym (ap term_of c.in-Unit.is)
+copy_term-returns-in-Unit t c =
+    term_boxed _ _ _ c.boxed-in-Unit.ensures
+    (sym (ap term_of c.in-Unit.is))
 
 pub copy_term-returns-in-Var : goal.copy_term-returns-in-Var
-copy_term-returns-in-Var t c = sym (ap term_of c.in-Var.is)
+copy_term-returns-in-Var t c =
+    term_boxed _ _ _ c.boxed-in-Var.ensures
+    (sym (ap term_of c.in-Var.is))
 
 pub copy_value-returns-in-Bool : goal.copy_value-returns-in-Bool
 copy_value-returns-in-Bool t c = sym (ap value_of c.in-Bool.is)
@@ -164,7 +182,7 @@ copy_members-loop-left-preserved t c = record {
       ∙ member_copied (members_of c.loop-left.done)
       (ap (λ x. (out-GroupMember x).name.0) c.deref-in-Cons-2.ensures)
       (ap names_of c.in_ok-params.ensures ∙ ap (λ x. names_of (out-GroupMember x).params) c.deref.ensures)
-      (c.in_ok-body.ensures ∙ ap (λ x. term_of (out-GroupMember x).body) c.deref-in-Cons.ensures)
+      (ap term_of c.into_inner.ensures ∙ c.in_ok-body.ensures ∙ ap (λ x. term_of (out-GroupMember x).body) c.deref-in-Cons.ensures)
       (ap (λ x. (out-GroupMember x).ty.0) c.deref-in-Cons-3.ensures)) (ap members_of c.deref-left.ensures)
       ∙ (rw c.in-Cons.is at c.loop-left.invariant.whole);
   smaller = search (rules, members_lemmas);
@@ -176,7 +194,7 @@ copy_bindings-loop-left-preserved t c = record {
       ap₂ bindings_onto (c.in_ok-done.ensures
       ∙ ap₂ (λ (n : ℕ) (x : Term). BindingThen n x (bindings_of c.loop-left.done))
       (ap (λ x. (out-CoreBinding x).name.0) c.deref-in-Cons.ensures)
-      (c.in_ok-value.ensures ∙ ap (λ x. term_of (out-CoreBinding x).value) c.deref.ensures))
+      (ap term_of c.into_inner.ensures ∙ c.in_ok-value.ensures ∙ ap (λ x. term_of (out-CoreBinding x).value) c.deref.ensures))
       (ap bindings_of c.deref-left.ensures) ∙ (rw c.in-Cons.is at c.loop-left.invariant.whole);
   smaller = search (rules, bindings_lemmas);
 }

@@ -2,22 +2,23 @@ use Rattle.std.proofs.Common.{rules, arith, ◌≡◌, ◌∷◌, refl, sym, ap,
 use Rattle.std.proofs.Common.{◌≤◌, ◌<◌, ◌-◌, ℕ, Option, get_or, take, take_all, Bool, true, false, suc}
 use Rattle.core_calc.specs.Terms.{Binding, Member, Members, MemberThen, NoMembers, Term, member_list, NoTerms, Terms}
 use Rattle.core_calc.specs.Terms.{term_list, binding_list}
-use Rattle.core_calc.specs.Views.{names_of, term_of, terms_of, bindings_of, members_of}
+use Rattle.core_calc.specs.Views.{term_of, terms_of, bindings_of, members_of}
 use Rattle.surface_trees.specs.Trees.{LambdaExpr, LetrecMembers, TypeExpr, Expr, Exprs, NoExprs, ExprThen, IfNode}
 use Rattle.surface_trees.specs.Trees.{LetThen, LetrecThen, AscribeNode, CallNode, LetNode, LetrecNode, BeginNode}
 use Rattle.surface_trees.specs.Trees.{PrimNode, TupleNode}
 use Rattle.cast_insert.specs.declared.heads.Head.{Head as RustHead}
-use Rattle.cast_insert.specs.Bodies.{bindings_onto, members_onto, body_of, bound_of, gathered_of, sequence_of}
+use Rattle.cast_insert.specs.Bodies.{bindings_onto, members_onto, body_of, bound_name_in, bound_of, bound_value}
+use Rattle.cast_insert.specs.Bodies.{gathered_of, sequence_of, type_in, value_in}
 use Rattle.cast_insert.specs.Elaboration.{Bound, MemberBody, Operands, Sequence, elaborate_bindings, elaborate_member}
 use Rattle.cast_insert.specs.Elaboration.{elaborate_members, elaborate, elaborate_sequence, elaborate_node}
 use Rattle.cast_insert.specs.Elaboration.{elaborate_each, elaborate_operands}
-use Rattle.cast_insert.specs.Environments.{Environment, Head, Meaning, plain}
+use Rattle.cast_insert.specs.Environments.{Environment, Head, plain}
 use Rattle.cast_insert.specs.Heads.{head_seen, heads_seen}
-use Rattle.cast_insert.specs.Making.{Work, Makes, Made, Refuses, Typed, then_make, cast_if, written_if}
+use Rattle.cast_insert.specs.Making.{Work, Makes, Made, Refuses, Typed, then_make}
 use Rattle.cast_insert.proofs.Loops.{bound_behind, made_as_twice, members_behind, members_done, members_refused}
 use Rattle.cast_insert.proofs.Loops.{sequence_behind, failed_as, sequence_refused, sequence_last, sequence_more}
 use Rattle.cast_insert.proofs.Loops.{bindings_more, if_first, if_second, if_joined, failed_first, made_first}
-use Rattle.cast_insert.proofs.Loops.{made_then, bindings_refused, bindings_unwritten, bindings_uncast, bindings_done}
+use Rattle.cast_insert.proofs.Loops.{made_then, bindings_refused, bindings_done}
 use Rattle.cast_insert.proofs.Loops.{members_none}
 use Rattle.surface_trees.specs.Views.{expr_of, exprs_of, lambda_of, lets_of, letrecs_of, written_of, type_of}
 use Rattle.surface_trees.specs.declared.exprs.ExprList.{the_lemmas as list_lemmas}
@@ -35,7 +36,7 @@ use Rattle.cast_insert.proofs.Room.{body_first, body_rest, grows_last, grows_on,
 use Rattle.cast_insert.proofs.Room.{part_later, parts_later, parts_then, no_parts}
 use Rattle.std.proofs.lemmas.List.{map-append, length-map}
 use Rattle.surface_trees.specs.declared.names.Ident.{Ident}
-use Rattle.surface_trees.specs.declared.exprs.Binding.{out-Binding}
+use Rattle.surface_trees.specs.declared.exprs.Binding.{the_lemmas as one_binding_lemmas}
 use Rattle.surface_trees.specs.declared.exprs.Bindings.{the_lemmas as binding_lemmas}
 use Rattle.surface_trees.specs.declared.exprs.Member.{out-Member}
 use Rattle.surface_trees.specs.declared.exprs.Members.{the_lemmas as member_lemmas}
@@ -51,22 +52,22 @@ use Rattle.cast_insert.specs.Room.{AreParts}
 use Rattle.surface_trees.specs.declared.exprs.Expr.{the_lemmas as expr_lemmas}
 use Rattle.cast_insert.proofs.elaboration.+elaborate.Goals as goal
 
-pub in_order-elaborate-requires : goal.in_order-elaborate-requires
-in_order-elaborate-requires t c =
+pub in_order-inside-requires : goal.in_order-inside-requires
+in_order-inside-requires t c =
     let source : IsSourceBody (ExprThen (expr_of c.in-Cons.first.value) (exprs_of c.in-Cons.rest.value)) =
     (rw c.in-Cons.is at c.loop-left.invariant.source) in (
       search (rules, list_lemmas, c.decreases, c.loop-left.invariant.smaller),
-      rw c.deref.ensures (body_first (expr_of c.in-Cons.first.value) (exprs_of c.in-Cons.rest.value) source),
+      body_first (expr_of c.in-Cons.first.value) (exprs_of c.in-Cons.rest.value) source,
     )
 
 pub in_order-returns-in_err-e-clause-answer : goal.in_order-returns-in_err-e-clause-answer
 in_order-returns-in_err-e-clause-answer t c =
     let whole = elaborate_sequence (exprs_of c.args.list.now) c.args.scopes.now (work_of c.args.progress.now) in
     failed_as c.in_err-e.field-0.0 typed_of sequence_of c.from_residual-in_err-e.result
-    (work_of c.elaborate.new.progress)
+    (work_of c.inside.new.progress)
     (elaborate (expr_of c.in-Cons.first.value) c.args.scopes.now (work_of c.loop-left.progress)) whole
     (search rules)
-    (rw (c.deref.ensures, c.loop-left.invariant.scopes) at c.in_err-e.ensures.answer)
+    (rw c.loop-left.invariant.scopes at c.in_err-e.ensures.answer)
     (λ kind place last refused. sequence_refused (term_list (terms_of c.loop-left.terms))
     (expr_of c.in-Cons.first.value) (exprs_of c.in-Cons.rest.value) c.args.scopes.now (work_of c.loop-left.progress)
     whole kind place last refused
@@ -74,16 +75,15 @@ in_order-returns-in_err-e-clause-answer t c =
 
 pub in_order-returns-in-Nil-clause-answer : goal.in_order-returns-in-Nil-clause-answer
 in_order-returns-in-Nil-clause-answer t c =
-    let none : exprs_of c.in-Cons.rest.value ≡ NoExprs = ap exprs_of (sym c.deref-in-loop-left.ensures ∙ c.in-Nil.is) in
+    let none : exprs_of c.in-Cons.rest.value ≡ NoExprs = ap exprs_of (sym c.deref.ensures ∙ c.in-Nil.is) in
     let done = term_list (terms_of c.loop-left.terms) in
     let terms : terms_of c.turned-in-Nil.result ≡ terms_onto (term_of c.in_ok-e.e.core.value ∷ done) NoTerms =
-    c.turned-in-Nil.ensures ∙ ap (λ xs. terms_onto xs NoTerms) (c.in_ok-push_front.ensures.ok
-    ∙ ap (λ core. term_of core ∷ done) c.into_inner.ensures) in
+    c.turned-in-Nil.ensures ∙ ap (λ xs. terms_onto xs NoTerms) c.in_ok-push_term.ensures in
     sequence_last done (typed_of c.in_ok-e.e) (expr_of c.in-Cons.first.value) c.args.scopes.now
-    (work_of c.loop-left.progress) (work_of c.elaborate.new.progress) _
-    (rw (c.deref.ensures, c.loop-left.invariant.scopes) at c.in_ok-e.ensures.answer)
+    (work_of c.loop-left.progress) (work_of c.inside.new.progress) _
+    (rw c.loop-left.invariant.scopes at c.in_ok-e.ensures.answer)
     (rw none at (rw c.in-Cons.is at c.loop-left.invariant.made))
-    ∙ ap (λ terms. Makes (record { terms = terms; type = c.in_ok-e.e.ty.0 }) (work_of c.elaborate.new.progress))
+    ∙ ap (λ terms. Makes (record { terms = terms; type = c.in_ok-e.e.ty.0 }) (work_of c.inside.new.progress))
     (sym terms)
 
 pub in_order-loop-left-preserved : goal.in_order-loop-left-preserved
@@ -91,68 +91,53 @@ in_order-loop-left-preserved t c =
     let second = c.in_default-deref.field-0.value in
     let others = c.in_default-deref.field-1.value in
     let more : exprs_of c.in-Cons.rest.value ≡ ExprThen (expr_of second) (exprs_of others) =
-    ap exprs_of (sym c.deref-in-loop-left.ensures ∙ c.in_default-deref.is) in
+    ap exprs_of (sym c.deref.ensures ∙ c.in_default-deref.is) in
     let done = term_list (terms_of c.loop-left.terms) in
-    let pushed : term_list (terms_of c.push_front.new.self) ≡ term_of c.in_ok-e.e.core.value ∷ done =
-    c.in_ok-push_front.ensures.ok ∙ ap (λ core. term_of core ∷ done) c.into_inner.ensures in
     let step = sequence_more done (typed_of c.in_ok-e.e) (expr_of c.in-Cons.first.value) (expr_of second)
-    (exprs_of others) c.args.scopes.now (work_of c.loop-left.progress) (work_of c.elaborate.new.progress) _
-    (rw (c.deref.ensures, c.loop-left.invariant.scopes) at c.in_ok-e.ensures.answer)
+    (exprs_of others) c.args.scopes.now (work_of c.loop-left.progress) (work_of c.inside.new.progress) _
+    (rw c.loop-left.invariant.scopes at c.in_ok-e.ensures.answer)
     (rw more at (rw c.in-Cons.is at c.loop-left.invariant.made)) in
     let source : IsSourceBody (ExprThen (expr_of c.in-Cons.first.value) (exprs_of c.in-Cons.rest.value)) =
     (rw c.in-Cons.is at c.loop-left.invariant.source) in
     record {
-      made = rw (pushed, c.deref-left.ensures, more) step;
+      made = rw (c.in_ok-push_term.ensures, c.deref-left.ensures, more) step;
       scopes = c.in_ok-e.ensures.scopes ∙ c.loop-left.invariant.scopes;
       smaller = search (rules, list_lemmas);
       source = rw (c.deref-left.ensures, more)
           (body_rest (expr_of c.in-Cons.first.value) (expr_of second) (exprs_of others) (rw more at source));
-      grows = grows_on c.args.progress.now.types c.loop-left.progress.types c.elaborate.new.progress.types
+      grows = grows_on c.args.progress.now.types c.loop-left.progress.types c.inside.new.progress.types
           c.loop-left.invariant.grows c.in_ok-e.ensures.grows;
     }
 
 pub bindings-loop-left-preserved : goal.bindings-loop-left-preserved
 bindings-loop-left-preserved t c =
-    let binding = out-Binding c.in-Cons.first.value in
-    let value = expr_of binding.value in
-    let done = binding_list (bindings_of c.loop-left.done) in
+    let binding = c.in-Cons.first.value in
+    let value = value_in binding in
     let names = c.loop-left.names.items in
     let variable = c.in_ok-variable.variable.0 in
     let bound = typed_of c.in_ok-bound.bound in
-    let pushed : binding_list (bindings_of c.push_front.new.self) ≡
-    record { name = variable; bound = bound.term } ∷ done =
-    c.in_ok-push_front.ensures.ok
-    ∙ ap (λ core. record { name = variable; bound = term_of core } ∷ done) c.into_inner-value.ensures in
-    let entry : Ident × Meaning = (binding.name, plain (place_of value) variable bound.type) in
-    let named : env_of c.push.new.names.items ≡ env_of names ++ entry ∷ [] =
+    let named : env_of c.push.new.names.items
+    ≡ env_of names ++ (bound_name_in binding, plain (place_of value) variable bound.type) ∷ [] =
     ap env_of c.in_ok-push.ensures
     ∙ map-append (λ (n : Named). (n.name, meaning_seen n.meaning)) names (c.in_ok-named.named ∷ [])
-    ∙ ap (λ (n : Named). env_of names ++ (n.name, meaning_seen n.meaning) ∷ [])
-    (rw (c.deref-in-Cons-3.ensures, c.deref-in-Cons-4.ensures) at c.in_ok-named.ensures) in
-    let step = bindings_more done (env_of names) binding.name (written_of binding.ty) value
-    (lets_of c.in-Cons.rest.value) c.args.scopes.now (typed_of c.in_ok-e.e) bound (place_if c.in_ok-wanted.wanted)
-    variable (work_of c.loop-left.progress) (work_of c.elaborate.new.progress) (work_of c.written_if.new.self)
-    (work_of c.cast_if.new.self) (work_of c.fresh.new.self) _
-    (rw (c.deref.ensures, c.loop-left.invariant.scopes) at c.in_ok-e.ensures.answer)
-    (rw c.deref-in-Cons.ensures at c.in_ok-wanted.ensures.answer)
-    (rw c.deref-in-Cons-2.ensures at c.in_ok-bound.ensures.answer)
+    ∙ ap (λ entries. env_of names ++ entries) c.in_ok-named.ensures in
+    let step = bindings_more (binding_list (bindings_of c.loop-left.done)) (env_of names) (bound_name_in binding)
+    (type_in binding) value (lets_of c.in-Cons.rest.value) c.args.scopes.now bound variable
+    (work_of c.loop-left.progress) (work_of c.bound_value.new.progress) (work_of c.fresh.new.self) _
+    (rw c.loop-left.invariant.scopes at c.in_ok-bound.ensures.answer)
     c.in_ok-variable.ensures.made
     (rw c.in-Cons.is at c.loop-left.invariant.made) in
-    let source : AreSourceBindings (LetThen binding.name (written_of binding.ty) value (lets_of c.in-Cons.rest.value)) =
-    (rw c.in-Cons.is at c.loop-left.invariant.source) in
+    let source : AreSourceBindings (LetThen (bound_name_in binding) (type_in binding) value
+    (lets_of c.in-Cons.rest.value)) = (rw c.in-Cons.is at c.loop-left.invariant.source) in
     record {
-      made = rw (pushed, named, c.deref-left.ensures) step;
-      scopes = c.in_ok-e.ensures.scopes ∙ c.loop-left.invariant.scopes;
+      made = rw (c.in_ok-push_binding.ensures, named, c.deref-left.ensures) step;
+      scopes = c.in_ok-bound.ensures.scopes ∙ c.loop-left.invariant.scopes;
       smaller = search (rules, binding_lemmas);
       source = rw c.deref-left.ensures source.2;
       grows = grows_on c.args.progress.now.types c.loop-left.progress.types c.fresh.new.self.types
           c.loop-left.invariant.grows
-          (grows_on c.loop-left.progress.types c.elaborate.new.progress.types c.fresh.new.self.types
-          c.in_ok-e.ensures.grows
-          (grows_on c.elaborate.new.progress.types c.written_if.new.self.types c.fresh.new.self.types
-          c.in_ok-wanted.ensures.grows
-          (grows_on c.written_if.new.self.types c.cast_if.new.self.types c.fresh.new.self.types
-          c.in_ok-bound.ensures.grows c.in_ok-variable.ensures.grows)));
+          (grows_on c.loop-left.progress.types c.bound_value.new.progress.types c.fresh.new.self.types
+          c.in_ok-bound.ensures.grows c.in_ok-variable.ensures.grows);
     }
 
 -- a member, and those behind it
@@ -184,20 +169,8 @@ members-loop-left-preserved t c =
     let done = member_list (members_of c.loop-left.done) in
     let head = head_seen c.head-item.result in
     let heads = c.loop-left.heads_left.now in
-    let pushed : member_list (members_of c.push_front.new.self) ≡ record {
-      name = head.meaning.variable;
-      parameters = names_of c.in_ok-member.member.variables;
-      body = term_of c.in_ok-member.member.body.value;
-      type = head.meaning.type;
-    } ∷ done = c.in_ok-push_front.ensures.ok
-    ∙ ap (λ core. record {
-      name = head.meaning.variable;
-      parameters = names_of c.in_ok-member.member.variables;
-      body = term_of core;
-      type = head.meaning.type;
-    } ∷ done) c.into_inner.ensures in
     record {
-      made = rw (pushed, c.deref-left.ensures)
+      made = rw (c.in_ok-push_member.ensures, c.deref-left.ensures)
           (members_more done member.name (written_of member.ty) (lambda_of member.fun)
           (letrecs_of c.in-Cons.rest.value) head (heads_seen (take (length heads - 1) (drop 1 heads))) c.args.scopes.now
           (body_of c.in_ok-member.member) (work_of c.loop-left.progress) (work_of c.member.new.progress) _
@@ -243,14 +216,14 @@ if_form-returns-in_err-first-clause-answer t c =
     let on_false = expr_of c.in-If.on_false.value in
     let env = c.args.scopes.now in
     rw c.in-If.is (failed_as c.in_err-first.field-0.0 typed_of typed_of c.from_residual-in_err-first.result
-    (work_of c.elaborate-2.new.progress) (elaborate on_true env (work_of c.cast_to_row.new.self))
+    (work_of c.inside-2.new.progress) (elaborate on_true env (work_of c.cast_to_row.new.self))
     (elaborate_node (IfNode condition on_true on_false) c.args.pos env (work_of c.args.progress.now))
     (search rules)
-    (rw (c.deref-3.ensures, c.in_ok-test.ensures.scopes) at c.in_err-first.ensures.answer)
+    (rw c.in_ok-test.ensures.scopes at c.in_err-first.ensures.answer)
     (λ kind at last refused. if_first condition on_true on_false c.args.pos env (typed_of c.in_ok-test.test)
-    (typed_of c.in_ok-truth.truth) (work_of c.args.progress.now) (work_of c.elaborate.new.progress)
-    (work_of c.cast_to_row.new.self) kind at last (rw c.deref.ensures at c.in_ok-test.ensures.answer)
-    (rw c.deref-2.ensures at c.in_ok-truth.ensures.answer) refused))
+    (typed_of c.in_ok-truth.truth) (work_of c.args.progress.now) (work_of c.inside.new.progress)
+    (work_of c.cast_to_row.new.self) kind at last c.in_ok-test.ensures.answer
+    (rw c.place.ensures at c.in_ok-truth.ensures.answer) refused))
 
 pub if_form-returns-in_err-second-clause-answer : goal.if_form-returns-in_err-second-clause-answer
 if_form-returns-in_err-second-clause-answer t c =
@@ -259,17 +232,17 @@ if_form-returns-in_err-second-clause-answer t c =
     let on_false = expr_of c.in-If.on_false.value in
     let env = c.args.scopes.now in
     rw c.in-If.is (failed_as c.in_err-second.field-0.0 typed_of typed_of c.from_residual-in_err-second.result
-    (work_of c.elaborate-3.new.progress) (elaborate on_false env (work_of c.elaborate-2.new.progress))
+    (work_of c.inside-3.new.progress) (elaborate on_false env (work_of c.inside-2.new.progress))
     (elaborate_node (IfNode condition on_true on_false) c.args.pos env (work_of c.args.progress.now))
     (search rules)
-    (rw (c.deref-4.ensures, c.in_ok-first.ensures.scopes, c.in_ok-test.ensures.scopes)
+    (rw (c.in_ok-first.ensures.scopes, c.in_ok-test.ensures.scopes)
     at c.in_err-second.ensures.answer)
     (λ kind at last refused. if_second condition on_true on_false c.args.pos env (typed_of c.in_ok-test.test)
     (typed_of c.in_ok-truth.truth) (typed_of c.in_ok-first.first) (work_of c.args.progress.now)
-    (work_of c.elaborate.new.progress) (work_of c.cast_to_row.new.self) (work_of c.elaborate-2.new.progress)
-    kind at last (rw c.deref.ensures at c.in_ok-test.ensures.answer) (rw c.deref-2.ensures at
+    (work_of c.inside.new.progress) (work_of c.cast_to_row.new.self) (work_of c.inside-2.new.progress)
+    kind at last c.in_ok-test.ensures.answer (rw c.place.ensures at
     c.in_ok-truth.ensures.answer)
-    (rw (c.deref-3.ensures, c.in_ok-test.ensures.scopes) at c.in_ok-first.ensures.answer) refused))
+    (rw c.in_ok-test.ensures.scopes at c.in_ok-first.ensures.answer) refused))
 
 pub if_form-returns-clause-answer : goal.if_form-returns-clause-answer
 if_form-returns-clause-answer t c =
@@ -280,13 +253,13 @@ if_form-returns-clause-answer t c =
     rw c.in-If.is (subst (λ (m : Made Typed). Answers c.joined.result typed_of (work_of c.joined.new.progress) m)
     (sym (if_joined condition on_true on_false c.args.pos env (typed_of c.in_ok-test.test)
     (typed_of c.in_ok-truth.truth) (typed_of c.in_ok-first.first) (typed_of c.in_ok-second.second)
-    (work_of c.args.progress.now) (work_of c.elaborate.new.progress) (work_of c.cast_to_row.new.self)
-    (work_of c.elaborate-2.new.progress) (work_of c.elaborate-3.new.progress)
-    (rw c.deref.ensures at c.in_ok-test.ensures.answer) (rw c.deref-2.ensures at c.in_ok-truth.ensures.answer)
-    (rw (c.deref-3.ensures, c.in_ok-test.ensures.scopes) at c.in_ok-first.ensures.answer)
-    (rw (c.deref-4.ensures, c.in_ok-first.ensures.scopes, c.in_ok-test.ensures.scopes)
+    (work_of c.args.progress.now) (work_of c.inside.new.progress) (work_of c.cast_to_row.new.self)
+    (work_of c.inside-2.new.progress) (work_of c.inside-3.new.progress)
+    c.in_ok-test.ensures.answer (rw c.place.ensures at c.in_ok-truth.ensures.answer)
+    (rw c.in_ok-test.ensures.scopes at c.in_ok-first.ensures.answer)
+    (rw (c.in_ok-first.ensures.scopes, c.in_ok-test.ensures.scopes)
     at c.in_ok-second.ensures.answer)))
-    (rw (c.deref-5.ensures, c.deref-6.ensures) at c.joined.ensures.answer))
+    (rw (c.place-2.ensures, c.place-3.ensures) at c.joined.ensures.answer))
 
 -- the forms whose place nothing asks for
 
@@ -365,30 +338,30 @@ let_form-returns-in_err-done-clause-answer t c = λ place.
 pub all-returns-in_err-e-clause-answer : goal.all-returns-in_err-e-clause-answer
 all-returns-in_err-e-clause-answer t c =
     rw c.in-Cons.is (failed_first c.in_err-e.field-0.0 typed_of given_of _ _ _ _ (search rules)
-    (rw c.deref.ensures at c.in_err-e.ensures.answer))
+    c.in_err-e.ensures.answer)
 
 pub all-returns-in_err-given-clause-answer : goal.all-returns-in_err-given-clause-answer
 all-returns-in_err-given-clause-answer t c =
-    rw c.in-Cons.is (made_first given_of _ _ _ _ _ _ (rw c.deref.ensures at c.in_ok-e.ensures.answer)
+    rw c.in-Cons.is (made_first given_of _ _ _ _ _ _ c.in_ok-e.ensures.answer
     (failed_first c.in_err-given.field-0.0 given_of given_of _ _ _ _ (search rules)
-    (rw (c.deref-2.ensures, c.in_ok-e.ensures.scopes) at c.in_err-given.ensures.answer)))
+    (rw (c.deref.ensures, c.in_ok-e.ensures.scopes) at c.in_err-given.ensures.answer)))
 
 pub all-returns-clause-answer : goal.all-returns-clause-answer
 all-returns-clause-answer t c =
-    rw c.in-Cons.is (made_then _ _ _ _ _ (rw c.deref.ensures at c.in_ok-e.ensures.answer)
-    (made_then _ _ _ _ _ (rw (c.deref-2.ensures, c.in_ok-e.ensures.scopes) at c.in_ok-given.ensures.answer)
+    rw c.in-Cons.is (made_then _ _ _ _ _ c.in_ok-e.ensures.answer
+    (made_then _ _ _ _ _ (rw (c.deref.ensures, c.in_ok-e.ensures.scopes) at c.in_ok-given.ensures.answer)
     (ap (λ (given : Given). Makes given (work_of c.all.new.progress)) (sym c.in_ok-given_first.ensures))))
 
 pub if_form-returns-in_err-test-clause-answer : goal.if_form-returns-in_err-test-clause-answer
 if_form-returns-in_err-test-clause-answer t c =
     rw c.in-If.is (failed_first c.in_err-test.field-0.0 typed_of typed_of _ _ _ _ (search rules)
-    (rw c.deref.ensures at c.in_err-test.ensures.answer))
+    c.in_err-test.ensures.answer)
 
 pub if_form-returns-in_err-truth-clause-answer : goal.if_form-returns-in_err-truth-clause-answer
 if_form-returns-in_err-truth-clause-answer t c =
-    rw c.in-If.is (made_first typed_of _ _ _ _ _ _ (rw c.deref.ensures at c.in_ok-test.ensures.answer)
+    rw c.in-If.is (made_first typed_of _ _ _ _ _ _ c.in_ok-test.ensures.answer
     (failed_first c.in_err-truth.field-0.0 typed_of typed_of _ _ _ _ (search rules)
-    (rw c.deref-2.ensures at c.in_err-truth.ensures.answer)))
+    (rw c.place.ensures at c.in_err-truth.ensures.answer)))
 
 -- ---- an expression, and its node
 
@@ -429,7 +402,7 @@ node-returns-in-If-clause-answer t c = c.if_form.ensures.answer
 
 pub node-returns-in-Ascribe-clause-answer : goal.node-returns-in-Ascribe-clause-answer
 node-returns-in-Ascribe-clause-answer t c =
-    rw c.in-Ascribe.is (rw c.deref-in-Ascribe.ensures at c.ascribed.ensures.answer)
+    rw c.in-Ascribe.is c.ascribed.ensures.answer
 
 -- ---- a `let` and a `letrec`
 
@@ -547,13 +520,13 @@ body-returns-clause-answer t c = rw c.in_ok-enter.ensures at c.in_ok-done.ensure
 pub node-returns-in_err-f-in-Call-clause-answer : goal.node-returns-in_err-f-in-Call-clause-answer
 node-returns-in_err-f-in-Call-clause-answer t c =
     rw c.in-Call.is (failed_first c.in_err-f-in-Call.field-0.0 typed_of typed_of _ _ _ _ (search rules)
-    (rw c.deref.ensures at c.in_err-f-in-Call.ensures.answer))
+    c.in_err-f-in-Call.ensures.answer)
 
 pub node-returns-in_ok-f-in-Call-clause-answer : goal.node-returns-in_ok-f-in-Call-clause-answer
 node-returns-in_ok-f-in-Call-clause-answer t c =
-    rw c.in-Call.is (made_first typed_of _ _ _ _ _ _ (rw c.deref.ensures at c.in_ok-f-in-Call.ensures.answer)
+    rw c.in-Call.is (made_first typed_of _ _ _ _ _ _ c.in_ok-f-in-Call.ensures.answer
     (made_first typed_of _ _ _ _ _ _ refl
-    (rw (c.deref-in-Call.ensures, c.in_ok-f-in-Call.ensures.scopes) at c.call.ensures.answer)))
+    (rw (c.place.ensures, c.in_ok-f-in-Call.ensures.scopes) at c.call.ensures.answer)))
 
 pub node-returns-in_ok-f-in-Call-clause-scopes : goal.node-returns-in_ok-f-in-Call-clause-scopes
 node-returns-in_ok-f-in-Call-clause-scopes t c =
@@ -566,7 +539,7 @@ node-returns-in_ok-f-in-Call-clause-grows t c =
 pub node-returns-in_err-e-in-Proj-clause-answer : goal.node-returns-in_err-e-in-Proj-clause-answer
 node-returns-in_err-e-in-Proj-clause-answer t c =
     rw c.in-Proj.is (failed_first c.in_err-e-in-Proj.field-0.0 typed_of typed_of _ _ _ _ (search rules)
-    (rw c.deref-in-Proj.ensures at c.in_err-e-in-Proj.ensures.answer))
+    c.in_err-e-in-Proj.ensures.answer)
 
 pub node-returns-in_ok-e-in-Proj-clause-scopes : goal.node-returns-in_ok-e-in-Proj-clause-scopes
 node-returns-in_ok-e-in-Proj-clause-scopes t c = on_ok c.projected.result c.in_ok-e-in-Proj.ensures.scopes
@@ -605,9 +578,6 @@ ascribed-returns-clause-scopes t c = on_ok c.cast_to.result c.in_ok-e.ensures.sc
 
 pub member-returns-clause-scopes : goal.member-returns-clause-scopes
 member-returns-clause-scopes t c = on_ok c.member_body.result c.in_ok-done.ensures.scopes
-
-pub bindings-cast_if-requires-clause-e : goal.bindings-cast_if-requires-clause-e
-bindings-cast_if-requires-clause-e t c = part_later _ _ _ c.in_ok-wanted.ensures.grows c.in_ok-e.ensures.part
 
 pub lambda_body-closed-requires-clause-types : goal.lambda_body-closed-requires-clause-types
 lambda_body-closed-requires-clause-types t c = parts_later _ _ _ c.in_ok-done.ensures.grows c.requires.types
@@ -683,43 +653,70 @@ body-returns-clause-scopes t c =
 
 -- ---- bindings that fail, and all of them
 
-pub bindings-returns-in_err-e-clause-answer : goal.bindings-returns-in_err-e-clause-answer
-bindings-returns-in_err-e-clause-answer t c =
-    let binding = out-Binding c.in-Cons.first.value in
-    failed_as c.in_err-e.field-0.0 typed_of bound_of _ _ (elaborate (expr_of binding.value) c.args.scopes.now
-    (work_of c.loop-left.progress)) _ (search rules)
-    (rw (c.deref.ensures, c.loop-left.invariant.scopes) at c.in_err-e.ensures.answer)
+pub bindings-returns-in_err-bound-clause-answer : goal.bindings-returns-in_err-bound-clause-answer
+bindings-returns-in_err-bound-clause-answer t c =
+    let binding = c.in-Cons.first.value in
+    failed_as c.in_err-bound.field-0.0 typed_of bound_of _ _ (bound_value (type_in binding) (value_in binding)
+    c.args.scopes.now (work_of c.loop-left.progress)) _ (search rules)
+    (rw c.loop-left.invariant.scopes at c.in_err-bound.ensures.answer)
     (λ kind place last refused. bindings_refused (binding_list (bindings_of c.loop-left.done))
-    (env_of c.loop-left.names.items) binding.name (written_of binding.ty) (expr_of binding.value)
+    (env_of c.loop-left.names.items) (bound_name_in binding) (type_in binding) (value_in binding)
     (lets_of c.in-Cons.rest.value) c.args.scopes.now (work_of c.loop-left.progress) _ kind place last refused
     (rw c.in-Cons.is at c.loop-left.invariant.made))
 
-pub bindings-returns-in_err-wanted-clause-answer : goal.bindings-returns-in_err-wanted-clause-answer
-bindings-returns-in_err-wanted-clause-answer t c =
-    let binding = out-Binding c.in-Cons.first.value in
-    failed_as c.in_err-wanted.field-0.0 place_if bound_of _ _ (written_if (written_of binding.ty)
-    (work_of c.elaborate.new.progress)) _ (search rules)
-    (rw c.deref-in-Cons.ensures at c.in_err-wanted.ensures.answer)
-    (λ kind place last refused. bindings_unwritten (binding_list (bindings_of c.loop-left.done))
-    (env_of c.loop-left.names.items) binding.name (written_of binding.ty) (expr_of binding.value)
-    (lets_of c.in-Cons.rest.value) c.args.scopes.now (typed_of c.in_ok-e.e) (work_of c.loop-left.progress)
-    (work_of c.elaborate.new.progress) _ kind place last
-    (rw (c.deref.ensures, c.loop-left.invariant.scopes) at c.in_ok-e.ensures.answer) refused
-    (rw c.in-Cons.is at c.loop-left.invariant.made))
+-- ---- the value of a binding
 
-pub bindings-returns-in_err-bound-clause-answer : goal.bindings-returns-in_err-bound-clause-answer
-bindings-returns-in_err-bound-clause-answer t c =
-    let binding = out-Binding c.in-Cons.first.value in
-    failed_as c.in_err-bound.field-0.0 typed_of bound_of _ _ (cast_if (place_of (expr_of binding.value))
-    (place_if c.in_ok-wanted.wanted) (typed_of c.in_ok-e.e) (work_of c.written_if.new.self)) _ (search rules)
-    (rw c.deref-in-Cons-2.ensures at c.in_err-bound.ensures.answer)
-    (λ kind place last refused. bindings_uncast (binding_list (bindings_of c.loop-left.done))
-    (env_of c.loop-left.names.items) binding.name (written_of binding.ty) (expr_of binding.value)
-    (lets_of c.in-Cons.rest.value) c.args.scopes.now (typed_of c.in_ok-e.e) (place_if c.in_ok-wanted.wanted)
-    (work_of c.loop-left.progress) (work_of c.elaborate.new.progress) (work_of c.written_if.new.self) _ kind place
-    last (rw (c.deref.ensures, c.loop-left.invariant.scopes) at c.in_ok-e.ensures.answer)
-    (rw c.deref-in-Cons.ensures at c.in_ok-wanted.ensures.answer) refused
-    (rw c.in-Cons.is at c.loop-left.invariant.made))
+pub bound_value-returns-in_err-e-clause-answer : goal.bound_value-returns-in_err-e-clause-answer
+bound_value-returns-in_err-e-clause-answer t c =
+    failed_first c.in_err-e.field-0.0 typed_of typed_of _ _ _ _ (search rules)
+    (rw c.deref.ensures at c.in_err-e.ensures.answer)
+
+pub bound_value-returns-in_err-wanted-clause-answer : goal.bound_value-returns-in_err-wanted-clause-answer
+bound_value-returns-in_err-wanted-clause-answer t c =
+    made_first typed_of _ _ _ _ _ _ (rw c.deref.ensures at c.in_ok-e.ensures.answer)
+    (failed_first c.in_err-wanted.field-0.0 place_if typed_of _ _ _ _ (search rules)
+    (rw c.deref.ensures at c.in_err-wanted.ensures.answer))
+
+pub bound_value-returns-clause-answer : goal.bound_value-returns-clause-answer
+bound_value-returns-clause-answer t c =
+    made_first typed_of _ _ _ _ _ _ (rw c.deref.ensures at c.in_ok-e.ensures.answer)
+    (made_first typed_of _ _ _ _ _ _ (rw c.deref.ensures at c.in_ok-wanted.ensures.answer)
+    (rw c.deref.ensures at c.cast_if.ensures.answer))
+
+pub bound_value-returns-clause-scopes : goal.bound_value-returns-clause-scopes
+bound_value-returns-clause-scopes t c = on_ok c.cast_if.result c.in_ok-e.ensures.scopes
+
+pub bound_value-returns-clause-grows : goal.bound_value-returns-clause-grows
+bound_value-returns-clause-grows t c =
+    grows_last c.cast_if.result _ _ _ (grows_on _ _ _ c.in_ok-e.ensures.grows c.in_ok-wanted.ensures.grows)
+    c.cast_if.ensures.grows
+
+pub bound_value-elaborate-requires : goal.bound_value-elaborate-requires
+bound_value-elaborate-requires t c =
+    (search (rules, one_binding_lemmas, c.decreases), rw c.deref.ensures c.requires.value)
+
+pub bound_value-written_if-requires : goal.bound_value-written_if-requires
+bound_value-written_if-requires t c = rw c.deref.ensures c.requires.written
+
+pub bound_value-cast_if-requires-clause-e : goal.bound_value-cast_if-requires-clause-e
+bound_value-cast_if-requires-clause-e t c = part_later _ _ _ c.in_ok-wanted.ensures.grows c.in_ok-e.ensures.part
+
+pub bound_value-cast_if-requires-clause-wanted : goal.bound_value-cast_if-requires-clause-wanted
+bound_value-cast_if-requires-clause-wanted t c = c.in_ok-wanted.ensures.part
+
+-- ---- an expression inside another
+
+pub inside-returns-clause-answer : goal.inside-returns-clause-answer
+inside-returns-clause-answer t c = rw c.deref.ensures at c.elaborate.ensures.answer
+
+pub inside-returns-clause-scopes : goal.inside-returns-clause-scopes
+inside-returns-clause-scopes t c = c.elaborate.ensures.scopes
+
+pub inside-returns-clause-grows : goal.inside-returns-clause-grows
+inside-returns-clause-grows t c = c.elaborate.ensures.grows
+
+pub inside-returns-clause-part : goal.inside-returns-clause-part
+inside-returns-clause-part t c = c.elaborate.ensures.part
 
 -- ---- what calls require of parts
 
@@ -755,20 +752,20 @@ with_first P (x ∷ more) some h = h x more
 pub each-returns-in_err-e-clause-answer : goal.each-returns-in_err-e-clause-answer
 each-returns-in_err-e-clause-answer t c =
     rw c.in-Cons.is (with_first (λ (wanted : List TypeId). Answers c.from_residual.result terms_of
-    (work_of c.elaborate.new.progress) (elaborate_each (ExprThen (expr_of c.in-Cons.first.value)
+    (work_of c.inside.new.progress) (elaborate_each (ExprThen (expr_of c.in-Cons.first.value)
     (exprs_of c.in-Cons.rest.value)) c.args.scopes.now (places_of wanted) (work_of c.args.progress.now)))
     c.args.wanted.now c.in-len1-up.len_at_least (λ ty more. failed_first c.in_err-e.field-0.0 typed_of terms_of _ _ _ _
-    (search rules) (rw c.deref.ensures at c.in_err-e.ensures.answer)))
+    (search rules) c.in_err-e.ensures.answer))
 
 pub operands-returns-in_err-e-clause-answer : goal.operands-returns-in_err-e-clause-answer
 operands-returns-in_err-e-clause-answer t c =
     rw c.in-Cons.is (with_first (λ (wanted : List Operand). Answers c.from_residual.result gathered_of
-    (work_of c.elaborate.new.progress) (elaborate_operands (ExprThen (expr_of c.in-Cons.first.value)
+    (work_of c.inside.new.progress) (elaborate_operands (ExprThen (expr_of c.in-Cons.first.value)
     (exprs_of c.in-Cons.rest.value)) (map operand_seen wanted) (place_if c.args.content) c.args.scopes.now
     (work_of c.args.progress.now)))
     c.args.wanted.now c.in-len1-up.len_at_least
     (λ ty more. failed_first c.in_err-e.field-0.0 typed_of gathered_of _ _ _ _
-    (search rules) (rw c.deref.ensures at c.in_err-e.ensures.answer)))
+    (search rules) c.in_err-e.ensures.answer))
 
 -- ---- arguments and operands, where the first is there
 
@@ -789,9 +786,9 @@ each-returns-in_err-argument-clause-answer t c =
     (work_of c.cast_to.new.self) (each_of (expr_of c.in-Cons.first.value) (exprs_of c.in-Cons.rest.value)
     c.args.scopes.now (work_of c.args.progress.now) wanted))
     (sym (first_known c.args.wanted.now (record { 0 = 0 }) c.in-len1-up.len_at_least))
-    (made_first terms_of _ _ _ _ _ _ (rw c.deref.ensures at c.in_ok-e.ensures.answer)
+    (made_first terms_of _ _ _ _ _ _ c.in_ok-e.ensures.answer
     (failed_first c.in_err-argument.field-0.0 typed_of terms_of _ _ _ _ (search rules)
-    (rw c.deref-2.ensures at c.in_err-argument.ensures.answer))))
+    (rw c.place.ensures at c.in_err-argument.ensures.answer))))
 
 pub each-returns-in_err-others-clause-answer : goal.each-returns-in_err-others-clause-answer
 each-returns-in_err-others-clause-answer t c =
@@ -799,19 +796,19 @@ each-returns-in_err-others-clause-answer t c =
     (work_of c.each.new.progress) (each_of (expr_of c.in-Cons.first.value) (exprs_of c.in-Cons.rest.value)
     c.args.scopes.now (work_of c.args.progress.now) wanted))
     (sym (first_known c.args.wanted.now (record { 0 = 0 }) c.in-len1-up.len_at_least))
-    (made_first terms_of _ _ _ _ _ _ (rw c.deref.ensures at c.in_ok-e.ensures.answer)
-    (made_first terms_of _ _ _ _ _ _ (rw c.deref-2.ensures at c.in_ok-argument.ensures.answer)
+    (made_first terms_of _ _ _ _ _ _ c.in_ok-e.ensures.answer
+    (made_first terms_of _ _ _ _ _ _ (rw c.place.ensures at c.in_ok-argument.ensures.answer)
     (failed_first c.in_err-others.field-0.0 terms_of terms_of _ _ _ _ (search rules)
-    (rw (c.deref-3.ensures, c.in_ok-e.ensures.scopes) at c.in_err-others.ensures.answer)))))
+    (rw (c.deref.ensures, c.in_ok-e.ensures.scopes) at c.in_err-others.ensures.answer)))))
 
 pub each-returns-clause-answer : goal.each-returns-clause-answer
 each-returns-clause-answer t c =
     rw c.in-Cons.is (ap (each_of (expr_of c.in-Cons.first.value) (exprs_of c.in-Cons.rest.value)
     c.args.scopes.now (work_of c.args.progress.now))
     (first_known c.args.wanted.now (record { 0 = 0 }) c.in-len1-up.len_at_least)
-    ∙ made_then _ _ _ _ _ (rw c.deref.ensures at c.in_ok-e.ensures.answer)
-    (made_then _ _ _ _ _ (rw c.deref-2.ensures at c.in_ok-argument.ensures.answer)
-    (made_then _ _ _ _ _ (rw (c.deref-3.ensures, c.in_ok-e.ensures.scopes) at c.in_ok-others.ensures.answer)
+    ∙ made_then _ _ _ _ _ c.in_ok-e.ensures.answer
+    (made_then _ _ _ _ _ (rw c.place.ensures at c.in_ok-argument.ensures.answer)
+    (made_then _ _ _ _ _ (rw (c.deref.ensures, c.in_ok-e.ensures.scopes) at c.in_ok-others.ensures.answer)
     (ap (λ (terms : Terms). Makes terms (work_of c.each.new.progress)) (sym c.in_ok-terms_first.ensures)))))
 
 abbrev operands_on : Expr → Exprs → Option ℕ → Environment → Work → List Operand → Made Operands
@@ -824,9 +821,9 @@ operands-returns-in_err-one-clause-answer t c =
     (work_of c.fitted.new.progress) (operands_on (expr_of c.in-Cons.first.value) (exprs_of c.in-Cons.rest.value)
     (place_if c.args.content) c.args.scopes.now (work_of c.args.progress.now) wanted))
     (sym (first_known c.args.wanted.now IntOperand c.in-len1-up.len_at_least))
-    (made_first gathered_of _ _ _ _ _ _ (rw c.deref.ensures at c.in_ok-e.ensures.answer)
+    (made_first gathered_of _ _ _ _ _ _ c.in_ok-e.ensures.answer
     (failed_first c.in_err-one.field-0.0 held_of gathered_of _ _ _ _ (search rules)
-    (rw c.deref-2.ensures at c.in_err-one.ensures.answer))))
+    (rw c.place.ensures at c.in_err-one.ensures.answer))))
 
 pub operands-returns-in_err-others-clause-answer : goal.operands-returns-in_err-others-clause-answer
 operands-returns-in_err-others-clause-answer t c =
@@ -834,19 +831,19 @@ operands-returns-in_err-others-clause-answer t c =
     (work_of c.operands.new.progress) (operands_on (expr_of c.in-Cons.first.value) (exprs_of c.in-Cons.rest.value)
     (place_if c.args.content) c.args.scopes.now (work_of c.args.progress.now) wanted))
     (sym (first_known c.args.wanted.now IntOperand c.in-len1-up.len_at_least))
-    (made_first gathered_of _ _ _ _ _ _ (rw c.deref.ensures at c.in_ok-e.ensures.answer)
-    (made_first gathered_of _ _ _ _ _ _ (rw c.deref-2.ensures at c.in_ok-one.ensures.answer)
+    (made_first gathered_of _ _ _ _ _ _ c.in_ok-e.ensures.answer
+    (made_first gathered_of _ _ _ _ _ _ (rw c.place.ensures at c.in_ok-one.ensures.answer)
     (failed_first c.in_err-others.field-0.0 gathered_of gathered_of _ _ _ _ (search rules)
-    (rw (c.deref-3.ensures, c.in_ok-e.ensures.scopes) at c.in_err-others.ensures.answer)))))
+    (rw (c.deref.ensures, c.in_ok-e.ensures.scopes) at c.in_err-others.ensures.answer)))))
 
 pub operands-returns-clause-answer : goal.operands-returns-clause-answer
 operands-returns-clause-answer t c =
     rw c.in-Cons.is (ap (operands_on (expr_of c.in-Cons.first.value) (exprs_of c.in-Cons.rest.value)
     (place_if c.args.content) c.args.scopes.now (work_of c.args.progress.now))
     (first_known c.args.wanted.now IntOperand c.in-len1-up.len_at_least)
-    ∙ made_then _ _ _ _ _ (rw c.deref.ensures at c.in_ok-e.ensures.answer)
-    (made_then _ _ _ _ _ (rw c.deref-2.ensures at c.in_ok-one.ensures.answer)
-    (made_then _ _ _ _ _ (rw (c.deref-3.ensures, c.in_ok-e.ensures.scopes) at c.in_ok-others.ensures.answer)
+    ∙ made_then _ _ _ _ _ c.in_ok-e.ensures.answer
+    (made_then _ _ _ _ _ (rw c.place.ensures at c.in_ok-one.ensures.answer)
+    (made_then _ _ _ _ _ (rw (c.deref.ensures, c.in_ok-e.ensures.scopes) at c.in_ok-others.ensures.answer)
     (ap (λ (terms : Terms). Makes (record { terms = terms; content = place_if c.in_ok-others.others.content })
     (work_of c.operands.new.progress)) (sym c.in_ok-terms_first.ensures)))))
 
@@ -956,19 +953,19 @@ pub each-each-requires : goal.each-each-requires
 each-each-requires t c =
     let sources : AreSources (ExprThen (expr_of c.in-Cons.first.value) (exprs_of c.in-Cons.rest.value)) =
     (rw c.in-Cons.is at c.requires) in
-    (search (rules, list_lemmas, c.decreases), rw c.deref-3.ensures sources.1)
+    (search (rules, list_lemmas, c.decreases), rw c.deref.ensures sources.1)
 
 pub all-all-requires : goal.all-all-requires
 all-all-requires t c =
     let sources : AreSources (ExprThen (expr_of c.in-Cons.first.value) (exprs_of c.in-Cons.rest.value)) =
     (rw c.in-Cons.is at c.requires) in
-    (search (rules, list_lemmas, c.decreases), rw c.deref-2.ensures sources.1)
+    (search (rules, list_lemmas, c.decreases), rw c.deref.ensures sources.1)
 
 pub operands-operands-requires : goal.operands-operands-requires
 operands-operands-requires t c =
     let sources : AreSources (ExprThen (expr_of c.in-Cons.first.value) (exprs_of c.in-Cons.rest.value)) =
     (rw c.in-Cons.is at c.requires.operands) in
-    (search (rules, list_lemmas, c.decreases), (rw c.deref-3.ensures sources.1, c.in_ok-one.ensures.content))
+    (search (rules, list_lemmas, c.decreases), (rw c.deref.ensures sources.1, c.in_ok-one.ensures.content))
 
 pub members-member-requires : goal.members-member-requires
 members-member-requires t c =
@@ -1000,7 +997,7 @@ all-returns-clause-parts t c =
 pub all-returns-clause-count : goal.all-returns-clause-count
 all-returns-clause-count t c =
     rw c.in-Cons.is (ap (λ (given : Given). length given.types) c.in_ok-given_first.ensures
-    ∙ ap suc (c.in_ok-given.ensures.count ∙ ap (λ list. how_many (exprs_of list)) c.deref-2.ensures))
+    ∙ ap suc (c.in_ok-given.ensures.count ∙ ap (λ list. how_many (exprs_of list)) c.deref.ensures))
 
 -- ---- lists that end early
 
@@ -1102,24 +1099,24 @@ bindings-returns-clause-answer t c =
     ∙ ap (λ bindings. Makes (record { bindings = bindings; entries = names }) (work_of c.loop-left.progress))
     (sym c.turned_bindings.ensures)
 
-pub bindings-elaborate-requires : goal.bindings-elaborate-requires
-bindings-elaborate-requires t c =
-    let binding = out-Binding c.in-Cons.first.value in
-    let source : AreSourceBindings (LetThen binding.name (written_of binding.ty) (expr_of binding.value)
+pub bindings-bound_value-requires : goal.bindings-bound_value-requires
+bindings-bound_value-requires t c =
+    let binding = c.in-Cons.first.value in
+    let source : AreSourceBindings (LetThen (bound_name_in binding) (type_in binding) (value_in binding)
     (lets_of c.in-Cons.rest.value)) = (rw c.in-Cons.is at c.loop-left.invariant.source) in
-    (search (rules, binding_lemmas, c.decreases, c.loop-left.invariant.smaller), rw c.deref.ensures source.0)
+    (search (rules, binding_lemmas, c.decreases, c.loop-left.invariant.smaller), (source.0, source.1))
 
-pub if_form-elaborate-requires-2 : goal.if_form-elaborate-requires-2
-if_form-elaborate-requires-2 t c =
+pub if_form-inside-requires-2 : goal.if_form-inside-requires-2
+if_form-inside-requires-2 t c =
     let source : IsSourceNode (IfNode (expr_of c.in-If.condition.value) (expr_of c.in-If.on_true.value)
     (expr_of c.in-If.on_false.value)) = (rw c.in-If.is at c.requires) in
-    (search (rules, node_lemmas, c.decreases), rw c.deref-3.ensures source.1)
+    (search (rules, node_lemmas, c.decreases), source.1)
 
-pub if_form-elaborate-requires-3 : goal.if_form-elaborate-requires-3
-if_form-elaborate-requires-3 t c =
+pub if_form-inside-requires-3 : goal.if_form-inside-requires-3
+if_form-inside-requires-3 t c =
     let source : IsSourceNode (IfNode (expr_of c.in-If.condition.value) (expr_of c.in-If.on_true.value)
     (expr_of c.in-If.on_false.value)) = (rw c.in-If.is at c.requires) in
-    (search (rules, node_lemmas, c.decreases), rw c.deref-4.ensures source.2)
+    (search (rules, node_lemmas, c.decreases), source.2)
 
 -- ---- what is left of the calls inside the cycle
 
@@ -1129,23 +1126,23 @@ call-each-requires t c = (search (rules, list_lemmas, c.decreases), c.requires.a
 pub call-all-requires : goal.call-all-requires
 call-all-requires t c = (search (rules, list_lemmas, c.decreases), c.requires.arguments)
 
-pub each-elaborate-requires : goal.each-elaborate-requires
-each-elaborate-requires t c =
+pub each-inside-requires : goal.each-inside-requires
+each-inside-requires t c =
     let sources : AreSources (ExprThen (expr_of c.in-Cons.first.value) (exprs_of c.in-Cons.rest.value)) =
     (rw c.in-Cons.is at c.requires) in
-    (search (rules, list_lemmas, c.decreases), rw c.deref.ensures sources.0)
+    (search (rules, list_lemmas, c.decreases), sources.0)
 
-pub all-elaborate-requires : goal.all-elaborate-requires
-all-elaborate-requires t c =
+pub all-inside-requires : goal.all-inside-requires
+all-inside-requires t c =
     let sources : AreSources (ExprThen (expr_of c.in-Cons.first.value) (exprs_of c.in-Cons.rest.value)) =
     (rw c.in-Cons.is at c.requires) in
-    (search (rules, list_lemmas, c.decreases), rw c.deref.ensures sources.0)
+    (search (rules, list_lemmas, c.decreases), sources.0)
 
-pub operands-elaborate-requires : goal.operands-elaborate-requires
-operands-elaborate-requires t c =
+pub operands-inside-requires : goal.operands-inside-requires
+operands-inside-requires t c =
     let sources : AreSources (ExprThen (expr_of c.in-Cons.first.value) (exprs_of c.in-Cons.rest.value)) =
     (rw c.in-Cons.is at c.requires.operands) in
-    (search (rules, list_lemmas, c.decreases), rw c.deref.ensures sources.0)
+    (search (rules, list_lemmas, c.decreases), sources.0)
 
 pub node-call-requires : goal.node-call-requires
 node-call-requires t c =
@@ -1153,22 +1150,22 @@ node-call-requires t c =
     (rw c.in-Call.is at c.requires) in
     (search (rules, node_lemmas, c.decreases), (source.1, source.2))
 
-pub node-elaborate-requires : goal.node-elaborate-requires
-node-elaborate-requires t c =
+pub node-inside-requires : goal.node-inside-requires
+node-inside-requires t c =
     let source : IsSourceNode (CallNode (expr_of c.in-Call.function.value) (exprs_of c.in-Call.arguments)) =
     (rw c.in-Call.is at c.requires) in
-    (search (rules, node_lemmas, c.decreases), rw c.deref.ensures source.0)
+    (search (rules, node_lemmas, c.decreases), source.0)
 
-pub node-elaborate-requires-in-Proj : goal.node-elaborate-requires-in-Proj
-node-elaborate-requires-in-Proj t c =
+pub node-inside-requires-in-Proj : goal.node-inside-requires-in-Proj
+node-inside-requires-in-Proj t c =
     let source : IsSource (expr_of c.in-Proj.whole.value) = (rw c.in-Proj.is at c.requires) in
-    (search (rules, node_lemmas, c.decreases), rw c.deref-in-Proj.ensures source)
+    (search (rules, node_lemmas, c.decreases), source)
 
 pub node-ascribed-requires : goal.node-ascribed-requires
 node-ascribed-requires t c =
     let source : IsSourceNode (AscribeNode (expr_of c.in-Ascribe.e.value) (type_of c.in-Ascribe.t)) =
     (rw c.in-Ascribe.is at c.requires) in
-    (search (rules, node_lemmas, c.decreases), rw c.deref-in-Ascribe.ensures source)
+    (search (rules, node_lemmas, c.decreases), source)
 
 pub node-lambda-requires : goal.node-lambda-requires
 node-lambda-requires t c =
@@ -1196,18 +1193,11 @@ let_form-body-requires t c =
 pub member-body-requires : goal.member-body-requires
 member-body-requires t c = (search (rules, lambda_lemmas, list_lemmas, c.decreases), c.requires.0)
 
-pub if_form-elaborate-requires : goal.if_form-elaborate-requires
-if_form-elaborate-requires t c =
+pub if_form-inside-requires : goal.if_form-inside-requires
+if_form-inside-requires t c =
     let source : IsSourceNode (IfNode (expr_of c.in-If.condition.value) (expr_of c.in-If.on_true.value)
     (expr_of c.in-If.on_false.value)) = (rw c.in-If.is at c.requires) in
-    (search (rules, node_lemmas, c.decreases), rw c.deref.ensures source.0)
-
-pub bindings-written_if-requires : goal.bindings-written_if-requires
-bindings-written_if-requires t c =
-    let binding = out-Binding c.in-Cons.first.value in
-    let source : AreSourceBindings (LetThen binding.name (written_of binding.ty) (expr_of binding.value)
-    (lets_of c.in-Cons.rest.value)) = (rw c.in-Cons.is at c.loop-left.invariant.source) in
-    rw c.deref-in-Cons.ensures source.1
+    (search (rules, node_lemmas, c.decreases), source.0)
 
 pub tuple_form-tuple-requires-clause-parts : goal.tuple_form-tuple-requires-clause-parts
 tuple_form-tuple-requires-clause-parts t c = c.in_ok-given.ensures.parts
@@ -1351,9 +1341,6 @@ tuple_form-all-requires t c = (search (rules, list_lemmas, c.decreases), c.requi
 pub operation-operands-requires : goal.operation-operands-requires
 operation-operands-requires t c = (search (rules, list_lemmas, c.decreases), (c.requires.0, tt))
 
-pub bindings-cast_if-requires-clause-wanted : goal.bindings-cast_if-requires-clause-wanted
-bindings-cast_if-requires-clause-wanted t c = c.in_ok-wanted.ensures.part
-
 pub lambda-parameter_types-requires : goal.lambda-parameter_types-requires
 lambda-parameter_types-requires t c = rw c.as_slice.ensures c.requires.1
 
@@ -1414,8 +1401,8 @@ lambda-written_if-requires t c = c.requires.3
 pub ascribed-written-requires : goal.ascribed-written-requires
 ascribed-written-requires t c = c.requires.1
 
-pub ascribed-elaborate-requires : goal.ascribed-elaborate-requires
-ascribed-elaborate-requires t c = (search (rules, node_lemmas, c.decreases), c.requires.0)
+pub ascribed-inside-requires : goal.ascribed-inside-requires
+ascribed-inside-requires t c = (search (rules, node_lemmas, c.decreases), c.requires.0)
 
 pub elaborate-node-requires : goal.elaborate-node-requires
 elaborate-node-requires t c = (search (rules, expr_lemmas, c.decreases), c.requires)

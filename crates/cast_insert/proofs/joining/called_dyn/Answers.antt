@@ -6,7 +6,7 @@ use Rattle.type_graph.specs.Rows.{places_of}
 use Rattle.cast_insert.specs.Making.{Makes, Typed, form}
 use Rattle.cast_insert.specs.Views.{work_of}
 use Rattle.cast_insert.proofs.Loops.{made_then}
-use Rattle.cast_insert.proofs.Room.{fun_fits, parts_later}
+use Rattle.cast_insert.proofs.Room.{fun_fits, grows_on, parts_later}
 use Rattle.cast_insert.proofs.joining.called_dyn.Goals as goal
 
 pub form-requires-2 : goal.form-requires-2
@@ -22,3 +22,8 @@ returns-clause-answer c =
     (work_of c.form.new.self)) (sym (c.in_ok-parameters.ensures ∙ c.as_slice.ensures.value))
     ∙ c.in_ok-whole.ensures.made) (made_then _ _ _ _ _ c.in_ok-called.ensures.made
     (ap (λ (e : Typed). Makes e (work_of c.cast_at.new.self)) (sym c.in_ok-plain.ensures))))
+
+pub returns-clause-grows : goal.returns-clause-grows
+returns-clause-grows c =
+    grows_on _ _ _ c.in_ok-dyn_type.ensures.grows
+    (grows_on _ _ _ c.in_ok-whole.ensures.grows c.in_ok-called.ensures.grows)

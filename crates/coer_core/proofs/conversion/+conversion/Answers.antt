@@ -62,42 +62,6 @@ converted-returns t c =
           w.casts-is
           (ap₂ (λ n x. RowLambda n x type) (ap names_of w.in_ok-copied-in-Lambda.ensures)
           w.in_ok-body-in-Lambda.ensures.term) w.in_ok-body-in-Lambda.ensures.casts
-      | goal.converted-in-Group+in_ok-members-in-Group+in_ok-part-in-Group w ↦
-          with_body cs core (Group _) RowGroup (converted_members cs _) _ (ap term_of w.in-Group.is)
-          w.deref-in-Group.ensures w.term-is w.casts-is refl (λ t. refl)
-          (w.in_ok-members-in-Group.ensures.term, w.in_ok-members-in-Group.ensures.casts)
-          (w.in_ok-part-in-Group.ensures.term, w.in_ok-part-in-Group.ensures.casts)
-      | goal.converted-in-Let+in_ok-bindings-in-Let+in_ok-part-in-Let w ↦
-          with_body cs core (Let _) RowLet (converted_bindings cs _) _ (ap term_of w.in-Let.is)
-          w.deref-in-Let.ensures w.term-is w.casts-is refl (λ t. refl)
-          (w.in_ok-bindings-in-Let.ensures.term, w.in_ok-bindings-in-Let.ensures.casts)
-          (w.in_ok-part-in-Let.ensures.term, w.in_ok-part-in-Let.ensures.casts)
-      | goal.converted-in-Call+in_ok-function-in-Call+in_ok-converted_all-in-Call w ↦
-          let first = w.in_ok-function-in-Call.ensures in
-          let terms : Terms = terms_of w.in-Call.arguments in
-          becomes cs core (Call (term_of w.deref-in-Call.result.now) terms)
-          (ap term_of w.in-Call.is ∙ ap (λ x. Call (term_of x) terms) (sym w.deref-in-Call.ensures)) w.term-is
-          w.casts-is
-          (ap₂ RowCall first.term
-          (w.in_ok-converted_all-in-Call.ensures.term ∙ ap (λ l. (converted_all l terms).term) first.casts))
-          (w.in_ok-converted_all-in-Call.ensures.casts ∙ ap (λ l. (converted_all l terms).casts) first.casts)
-      | goal.converted-in-If+in_ok-condition-in-If+in_ok-on_true-in-If+in_ok-part-in-If w ↦
-          let t : Term = term_of w.deref-in-If.result.now in
-          let u : Term = term_of w.deref-in-If-2.result.now in
-          let v : Term = term_of w.deref-in-If-3.result.now in
-          let first = w.in_ok-condition-in-If.ensures in
-          let second = w.in_ok-on_true-in-If.ensures in
-          let last = w.in_ok-part-in-If.ensures in
-          let met : cast_views w.part-in-If-2.new.casts ≡ (converted (converted cs t).casts u).casts =
-          second.casts ∙ ap (λ l. (converted l u).casts) first.casts in
-          becomes cs core (If t u v)
-          (ap term_of w.in-If.is
-          ∙ ap (λ x. If (term_of x) (term_of w.in-If.on_true.value) (term_of w.in-If.on_false.value))
-          (sym w.deref-in-If.ensures)
-          ∙ ap (λ x. If t (term_of x) (term_of w.in-If.on_false.value)) (sym w.deref-in-If-2.ensures)
-          ∙ ap (λ x. If t u (term_of x)) (sym w.deref-in-If-3.ensures)) w.term-is w.casts-is
-          (ap3 RowIf first.term (second.term ∙ ap (λ l. (converted l u).term) first.casts)
-          (last.term ∙ ap (λ l. (converted l v).term) met)) (last.casts ∙ ap (λ l. (converted l v).casts) met)
       | goal.converted-in-Seq+in_ok-converted_all-in-Seq w ↦
           becomes cs core (Seq (terms_of w.in-Seq.terms)) (ap term_of w.in-Seq.is) w.term-is w.casts-is
           (ap RowSeq w.in_ok-converted_all-in-Seq.ensures.term) w.in_ok-converted_all-in-Seq.ensures.casts
@@ -138,5 +102,51 @@ converted-returns t c =
                   | inr e ↦ becomes cs core (ValueTerm (value_of e.0)) (ap term_of e.1) w.term-is keys refl refl
                 ]
           ]
+    ] in
+    record { term = e.0; casts = e.1 }
+
+pub several-returns : goal.several-returns
+several-returns t c =
+    let cs : List TypeCast = cast_views c.args.casts.now in
+    let core : Core = c.args.core.now in
+    let e : (row_term_of c.match-core.term ≡ (converted cs (term_of core)).term)
+    × (cast_views c.match-core.casts ≡ (converted cs (term_of core)).casts) =
+    elim c.match-core.branch [
+      | goal.several-in-Group+in_ok-members-in-Group+in_ok-part-in-Group w ↦
+          with_body cs core (Group _) RowGroup (converted_members cs _) _ (ap term_of w.in-Group.is)
+          w.deref.ensures w.term-is w.casts-is refl (λ t. refl)
+          (w.in_ok-members-in-Group.ensures.term, w.in_ok-members-in-Group.ensures.casts)
+          (w.in_ok-part-in-Group.ensures.term, w.in_ok-part-in-Group.ensures.casts)
+      | goal.several-in-Let+in_ok-bindings-in-Let+in_ok-part-in-Let w ↦
+          with_body cs core (Let _) RowLet (converted_bindings cs _) _ (ap term_of w.in-Let.is)
+          w.deref-in-Let.ensures w.term-is w.casts-is refl (λ t. refl)
+          (w.in_ok-bindings-in-Let.ensures.term, w.in_ok-bindings-in-Let.ensures.casts)
+          (w.in_ok-part-in-Let.ensures.term, w.in_ok-part-in-Let.ensures.casts)
+      | goal.several-in-Call+in_ok-function-in-Call+in_ok-converted_all-in-Call w ↦
+          let first = w.in_ok-function-in-Call.ensures in
+          let terms : Terms = terms_of w.in-Call.arguments in
+          becomes cs core (Call (term_of w.deref-in-Call.result.now) terms)
+          (ap term_of w.in-Call.is ∙ ap (λ x. Call (term_of x) terms) (sym w.deref-in-Call.ensures)) w.term-is
+          w.casts-is
+          (ap₂ RowCall first.term
+          (w.in_ok-converted_all-in-Call.ensures.term ∙ ap (λ l. (converted_all l terms).term) first.casts))
+          (w.in_ok-converted_all-in-Call.ensures.casts ∙ ap (λ l. (converted_all l terms).casts) first.casts)
+      | goal.several-in-If+in_ok-condition-in-If+in_ok-on_true-in-If+in_ok-part-in-If w ↦
+          let t : Term = term_of w.deref-in-If.result.now in
+          let u : Term = term_of w.deref-in-If-2.result.now in
+          let v : Term = term_of w.deref-in-If-3.result.now in
+          let first = w.in_ok-condition-in-If.ensures in
+          let second = w.in_ok-on_true-in-If.ensures in
+          let last = w.in_ok-part-in-If.ensures in
+          let met : cast_views w.part-in-If-2.new.casts ≡ (converted (converted cs t).casts u).casts =
+          second.casts ∙ ap (λ l. (converted l u).casts) first.casts in
+          becomes cs core (If t u v)
+          (ap term_of w.in-If.is
+          ∙ ap (λ x. If (term_of x) (term_of w.in-If.on_true.value) (term_of w.in-If.on_false.value))
+          (sym w.deref-in-If.ensures)
+          ∙ ap (λ x. If t (term_of x) (term_of w.in-If.on_false.value)) (sym w.deref-in-If-2.ensures)
+          ∙ ap (λ x. If t u (term_of x)) (sym w.deref-in-If-3.ensures)) w.term-is w.casts-is
+          (ap3 RowIf first.term (second.term ∙ ap (λ l. (converted l u).term) first.casts)
+          (last.term ∙ ap (λ l. (converted l v).term) met)) (last.casts ∙ ap (λ l. (converted l v).casts) met)
     ] in
     record { term = e.0; casts = e.1 }

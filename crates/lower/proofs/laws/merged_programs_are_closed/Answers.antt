@@ -1,6 +1,7 @@
 use Rattle.std.proofs.Common.{suc, length}
-use Rattle.lower.specs.Sets.{merged_numbers, merged_procs}
-use Rattle.lower.proofs.closing.Sets.{merged_serves_anywhere, programs_with_sets_are_closed}
+use Rattle.lower.specs.MergedProcs.{merged_numbers, merged_procs}
+use Rattle.lower.proofs.merging.MergedSet.{merged_serves_anywhere}
+use Rattle.lower.proofs.Sets.{programs_with_sets_are_closed}
 use Rattle.lower.proofs.laws.merged_programs_are_closed.Goals as goal
 
 pub returns : goal.returns

@@ -1,7 +1,7 @@
 use Rattle.std.proofs.Common.{◌≡◌, ◌+◌, subst}
 use Rattle.low_ir.specs.Views.{procs_of}
 use Rattle.rt_refs.specs.RefProcs.{ref_procs}
-use Rattle.lower.proofs.closing.Schemes.{merged_list}
+use Rattle.lower.proofs.merging.MergedSet.{merged_list}
 use Rattle.lower.proofs.merged.merged_procs.Goals as goal
 
 pub returns : goal.returns

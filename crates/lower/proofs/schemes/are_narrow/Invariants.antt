@@ -1,6 +1,6 @@
 use Rattle.std.proofs.Common.{◌≡◌, length}
 use Rattle.flat_ir.specs.Views.{procs_of}
-use Rattle.lower.specs.Serving.{all_narrow}
+use Rattle.lowered_code.specs.Serving.{all_narrow}
 use Rattle.lower.proofs.schemes.are_narrow.Given as goal
 
 -- those that are left are narrow where all are

@@ -5,9 +5,9 @@ use Rattle.type_graph.specs.Rows.{row_of}
 use Rattle.flat_ir.specs.Views.{proc_of as flat_proc_of, procs_of as flat_procs_of}
 use Rattle.low_ir.specs.Views.{procs_of}
 use Rattle.coercion_norm.specs.CastRows.{row_casts}
-use Rattle.lower.specs.CastWays.{cast_ways}
+use Rattle.lowered_code.specs.CastWays.{cast_ways}
 use Rattle.lower.specs.Sets.{numbers_of}
-use Rattle.lower.proofs.closing.Schemes.{program_gives_up_nowhere, program_is_closed, program_is_lowered}
+use Rattle.lower.proofs.SchemePrograms.{program_gives_up_nowhere, program_is_closed, program_is_lowered}
 use Rattle.lower.proofs.schemes.lower_over.Goals as goal
 
 pub returns-clause-procs : goal.returns-clause-procs

@@ -1,4 +1,4 @@
-use Rattle.lower.proofs.closing.Sets.{merged_serves_anywhere}
+use Rattle.lower.proofs.merging.MergedSet.{merged_serves_anywhere}
 use Rattle.lower.proofs.merged.MergedScheme.procs.Goals as goal
 
 pub returns-clause-serves : goal.returns-clause-serves

@@ -1,4 +1,4 @@
-use Rattle.lower.proofs.merging.Laws.{merged_laws}
+use Rattle.lower.proofs.merging.MeaningLaws.{merged_laws}
 use Rattle.lower.proofs.merging.Serving.{merged_procedures_serve}
 use Rattle.lower.proofs.merged.MergedScheme.serves.Goals as goal
 

@@ -1,0 +1,10 @@
+use Rattle.std.proofs.Common.{ap, sym}
+use Rattle.cast_insert.specs.Making.{Makes, Typed}
+use Rattle.cast_insert.specs.Views.{work_of}
+use Rattle.cast_insert.proofs.Loops.{made_then}
+use Rattle.cast_insert.proofs.elaboration.operated.Goals as goal
+
+pub returns-clause-answer : goal.returns-clause-answer
+returns-clause-answer c =
+    made_then _ _ _ _ _ c.in_ok-ty.ensures.made
+    (ap (λ (e : Typed). Makes e (work_of c.answer_type.new.progress)) (sym c.in_ok-plain.ensures))

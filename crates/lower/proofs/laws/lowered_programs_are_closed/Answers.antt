@@ -1,6 +1,0 @@
-use Rattle.lower.proofs.closing.Programs.{lowered_programs_are_closed}
-use Rattle.lower.proofs.laws.lowered_programs_are_closed.Goals as goal
-
-pub returns : goal.returns
-returns c = λ run flat entry answer serving h serve last.
-    lowered_programs_are_closed run flat entry answer serving h serve last

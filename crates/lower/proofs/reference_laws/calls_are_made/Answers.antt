@@ -1,8 +1,0 @@
-use Rattle.lower.proofs.references.OverObjects.{calls_are_made}
-use Rattle.lower.proofs.reference_laws.calls_are_made.Goals as goal
-
-pub returns : goal.returns
-returns g c = λ reading setting l first s exhausts ready low objects filled heads f c ds e split us wv ws hv hu few
-    many head address rest there.
-    calls_are_made reading setting l first s exhausts ready low objects filled heads f c ds e split us wv ws hv hu few
-    many head address rest there

@@ -1,8 +1,0 @@
-use Rattle.lower.proofs.references.OverObjects.{elements_are_read}
-use Rattle.lower.proofs.reference_laws.elements_are_read.Goals as goal
-
-pub returns : goal.returns
-returns g c = λ reading setting l first s exhausts ready low objects filled head u wv hv a d behind ws cell which i
-    word other got x hx r e some.
-    elements_are_read reading setting l first s exhausts ready low objects filled head u wv hv a d behind ws cell
-    which i word other got x hx r e some

@@ -1,5 +1,0 @@
-use Rattle.lower.proofs.Gathering.{ahead_more}
-use Rattle.lower.proofs.steps.Steps.push.Goals as goal
-
-pub returns : goal.returns
-returns c = λ k. rw c.in_ok-append.ensures (ahead_more _ _ k)

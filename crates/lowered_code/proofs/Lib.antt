@@ -1,0 +1,4 @@
+pub mod Public
+mod Gathering
+mod GroupTurns
+mod closing

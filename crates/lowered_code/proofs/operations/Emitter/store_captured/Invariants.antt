@@ -1,0 +1,13 @@
+use Rattle.std.proofs.Common.{◌≡◌, length}
+use Rattle.low_ir.specs.Procedures.{Code}
+use Rattle.lowered_code.specs.Emit.{store_captured}
+use Rattle.lowered_code.specs.Steps.{ahead}
+use Rattle.lowered_code.proofs.operations.Emitter.store_captured.Given as goal
+
+-- what is left, behind what was stored, comes to the whole
+abbrev pub invariant-loop-left : goal.invariant-loop-left
+invariant-loop-left l = (k : Code) → ahead l.steps.steps.items (store_captured l.self.shape l.d l.place l.left k)
+    ≡ ahead l.fn.steps.steps.items (store_captured l.self.shape l.d 0 l.captured k)
+
+abbrev pub decreases-loop-left : goal.decreases-loop-left
+decreases-loop-left l = length l.left

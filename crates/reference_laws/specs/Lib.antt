@@ -1,0 +1,4 @@
+pub mod CallLaws
+pub mod CellLaws
+pub mod FillLaws
+pub mod ReferenceLaws
