@@ -4,5 +4,6 @@ mod closures;
 mod coercions;
 mod procedures;
 mod samples;
+mod steps;
 mod terms;
 mod typing;

@@ -1,5 +1,6 @@
 // Tests by subject, and what they share.
 
+mod audits;
 mod elaborations;
 mod forms;
 mod words;

@@ -4,3 +4,4 @@ mod casts;
 mod codes;
 mod programs;
 mod readings;
+mod registers;

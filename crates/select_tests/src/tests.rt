@@ -2,6 +2,7 @@
 
 mod arithmetic;
 mod calls;
+mod casts;
 mod closed;
 mod machines;
 mod programs;

@@ -1,4 +1,4 @@
-use Rattle.std.proofs.Common.{ℕ, true, length, take, replicate, sym, ap, ◌∙◌, subst, None, get_or, List}
+use Rattle.std.proofs.Common.{ℕ, true, length, take, replicate, sym, ap, ◌∙◌, subst, None, get_or, List, rules}
 use Rattle.cast_insert.specs.declared.casts.CastEntry.{CastEntry}
 use Rattle.cast_insert.specs.declared.casts.CastEntry.TheVariants.{Cast}
 use Rattle.cast_insert.specs.Views.{entries_of, entry_of}
@@ -30,3 +30,7 @@ loop-entry-preserved c =
           ∙ sym (marked_more c.args.types.now c.args.casts.now c.loop-entry.entry-index nothing
           (replicate c.args.labels true) c.loop-entry-test.true);
     }
+
+-- (an edit turns this function: with the answer here its refusal takes one run of the prover, and not two)
+pub loop-entry-init : goal.loop-entry-init
+loop-entry-init c = search rules

@@ -1,4 +1,0 @@
-// Tests by subject, and what they share.
-
-mod goings;
-mod sources;

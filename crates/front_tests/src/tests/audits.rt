@@ -1,0 +1,4 @@
+// Tests of the audit: which casts go up, and the audits of sources.
+
+mod goings;
+mod sources;

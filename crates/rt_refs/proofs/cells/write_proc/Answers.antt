@@ -1,0 +1,7 @@
+use Rattle.std.proofs.Common.{rules}
+use Rattle.rt_refs.proofs.cells.write_proc.Goals as goal
+
+-- (an edit turns this function: with the answer here its refusal takes one run of the prover, and not two)
+
+pub returns : goal.returns
+returns c = search rules

@@ -1,0 +1,8 @@
+use Rattle.std.proofs.Common.{arith}
+use Rattle.std.proofs.lemmas.Grind.{common_steps}
+use Rattle.rv_select.proofs.parts.put_start.Goals as goal
+
+-- (two edits turn this function: with the answer here the refusal of each takes one run of the prover, and not two)
+
+pub returns : goal.returns
+returns c = grind (arith, common_steps)
