@@ -19,7 +19,7 @@ const HEADER_LEN: usize = 64;
 
 /// An image: a header of 64 bytes, then statics, code and labels without gaps. It is the list of its bytes, whose
 /// header keeps what it promises.
-#[derive(Drop, Debug)]
+#[derive(Drop)]
 pub struct Image {
     bytes: Bytes,
 }

@@ -1,6 +1,7 @@
 // Tests by subject, and what they share.
 
 mod dyns;
+mod files;
 mod labels;
 mod laws;
 mod lists;

@@ -7,14 +7,14 @@ use Rattle.type_graph.specs.Trees.{AreFinite}
 use Rattle.core_calc.specs.Views.{term_of}
 use Rattle.surface_trees.specs.Trees.{Expr}
 use Rattle.cast_insert.specs.declared.insertion.Elab.{Elab}
-use Rattle.cast_insert.specs.Elaboration.{elaborate_program}
-use Rattle.cast_insert.specs.Listed.{IsListed}
-use Rattle.cast_insert.specs.Making.{Entry, CastFrom, PartOf, Made, Makes, Refuses, Typed}
-use Rattle.cast_insert.specs.Claims.{EntryFits}
+use Rattle.cast_rules.specs.Elaboration.{elaborate_program}
+use Rattle.cast_rules.specs.Listed.{IsListed}
+use Rattle.cast_rules.specs.Making.{Entry, CastFrom, PartOf, Made, Makes, Refuses, Typed}
+use Rattle.cast_rules.specs.Claims.{EntryFits}
 use Rattle.cast_insert.specs.Outcomes.{Outcome, Elaborates, IsRefused, outcome_of}
-use Rattle.cast_insert.specs.Programs.{IsSource}
-use Rattle.cast_insert.specs.Views.{entries_of}
-use Rattle.cast_insert.proofs.Public.{entries_elaborated, elaborated_programs_list_their_casts}
+use Rattle.cast_rules.specs.Programs.{IsSource}
+use Rattle.insert_steps.specs.Views.{entries_of}
+use Rattle.cast_rules.proofs.Public.{entries_elaborated, elaborated_programs_list_their_casts}
 use Rattle.blame_audit.specs.Claims.{IsElaborated, NeverBlames, CastsStayUp, TellsNoSafeBlame, program_over}
 use Rattle.blame_audit.specs.Claims.{safe_labels_in}
 use Rattle.blame_audit.specs.Marks.{NamesKnown, AllNameKnown}

@@ -6,8 +6,8 @@ use Rattle.grift_base.specs.declared.operators.PrimOp.TheVariants.{MakeBox, BoxS
 use Rattle.core_calc.specs.Terms.{Term, IntLit, BoolLit, Var, Let, Seq, Cast, ProjDyn, Tuple, Prim, NoTerms, TermThen}
 use Rattle.core_calc.specs.Terms.{NoBindings, BindingThen}
 use Rattle.core_calc.specs.Calculus.{Blamed, Program, calc}
-use Rattle.cast_insert.specs.Making.{Entry, CastFrom, PartOf}
-use Rattle.cast_insert.specs.Listed.{IsListed}
+use Rattle.cast_rules.specs.Making.{Entry, CastFrom, PartOf}
+use Rattle.cast_rules.specs.Listed.{IsListed}
 use Rattle.blame_audit.specs.SafeLabels.{safe_labels}
 
 abbrev types : TypeRows

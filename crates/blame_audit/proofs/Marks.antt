@@ -9,9 +9,9 @@ use Rattle.grift_base.specs.declared.places.LabelId.{LabelId}
 use Rattle.grift_base.specs.Types.{TypeRows}
 use Rattle.type_graph.specs.Trees.{AreFinite}
 use Rattle.core_calc.proofs.Public.{none_is_not_some, same_some, get_kept, get_last, get_before_or_last}
-use Rattle.cast_insert.specs.declared.casts.CastEntry.{CastEntry}
-use Rattle.cast_insert.specs.Making.{Entry, CastFrom, PartOf}
-use Rattle.cast_insert.specs.Views.{entry_of, entries_of}
+use Rattle.insert_steps.specs.declared.casts.CastEntry.{CastEntry}
+use Rattle.cast_rules.specs.Making.{Entry, CastFrom, PartOf}
+use Rattle.insert_steps.specs.Views.{entry_of, entries_of}
 use Rattle.blame_audit.specs.Up.{Up, up}
 use Rattle.blame_audit.specs.SafeLabels.{Allows, IsSafe, spoils, is_spared, is_safe, safe_labels}
 use Rattle.blame_audit.specs.Marks.{NamesKnown, AllNameKnown, spoil, marked}

@@ -11,8 +11,8 @@ use Rattle.grift_base.specs.declared.verdicts.Verdict.{Verdict}
 use Rattle.grift_base.specs.declared.verdicts.Verdict.TheVariants.{Answer as AnswerVerdict, Blame, Trap as TrapVerdict}
 use Rattle.core_calc.specs.Calculus.{CalcEnd, Answered, Blamed, Trapped, NoStep, blame_at, ending_of, Program, calc}
 use Rattle.core_calc.proofs.Public.{none_is_not_some}
-use Rattle.cast_insert.specs.Making.{Entry}
-use Rattle.cast_insert.specs.Listed.{IsListed}
+use Rattle.cast_rules.specs.Making.{Entry}
+use Rattle.cast_rules.specs.Listed.{IsListed}
 use Rattle.blame_audit.specs.SafeLabels.{IsSafe}
 use Rattle.blame_audit.specs.Claims.{NeverTellsBlame}
 use Rattle.blame_audit.proofs.RunsGoUp.{safe_labels_are_never_blamed}

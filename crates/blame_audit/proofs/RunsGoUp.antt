@@ -10,8 +10,8 @@ use Rattle.core_calc.specs.Outcome.{Outcome, Goes, Blames, Traps, Stuck}
 use Rattle.core_calc.specs.Step.{step}
 use Rattle.core_calc.specs.Calculus.{shown_value, CalcEnd, Answered, Blamed, Trapped, NoStep, CalcState, start}
 use Rattle.core_calc.specs.Calculus.{state_after_step, Program, calculus, calc}
-use Rattle.cast_insert.specs.Making.{Entry, CastFrom, PartOf}
-use Rattle.cast_insert.specs.Listed.{IsListed, AreListed, AreListedMembers, AreListedBindings}
+use Rattle.cast_rules.specs.Making.{Entry, CastFrom, PartOf}
+use Rattle.cast_rules.specs.Listed.{IsListed, AreListed, AreListedMembers, AreListedBindings}
 use Rattle.blame_audit.specs.SafeLabels.{IsSafe}
 use Rattle.blame_audit.specs.CastsGoUp.{TermGoesUp, TermsGoUp, MembersGoUp, BindingsGoUp, NotBlamed}
 use Rattle.blame_audit.specs.CastsGoUp.{StateGoesUp}

@@ -8,10 +8,10 @@ use Rattle.core_calc.specs.Calculus.{Blamed, Program, calc}
 use Rattle.core_calc.specs.Views.{term_of}
 use Rattle.surface_trees.specs.Trees.{Expr}
 use Rattle.cast_insert.specs.declared.insertion.Elab.{Elab}
-use Rattle.cast_insert.specs.Elaboration.{elaborate_program}
+use Rattle.cast_rules.specs.Elaboration.{elaborate_program}
 use Rattle.cast_insert.specs.Outcomes.{Elaborates, outcome_of}
-use Rattle.cast_insert.specs.Programs.{IsSource}
-use Rattle.cast_insert.specs.Views.{entries_of}
+use Rattle.cast_rules.specs.Programs.{IsSource}
+use Rattle.insert_steps.specs.Views.{entries_of}
 use Rattle.blame_audit.specs.CastsGoUp.{StateGoesUp}
 use Rattle.blame_audit.specs.SafeLabels.{safe_labels}
 

@@ -1,7 +1,7 @@
 -- A mark for each label, which says whether it is safe by the entries gone through.
 use Rattle.std.specs.Prelude.{◌≡◌, ℕ, ◌<◌, Bool, false, List, [], ◌∷◌, Option, Some, None, slice_get, slice_set}
 use Rattle.grift_base.specs.Types.{TypeRows}
-use Rattle.cast_insert.specs.Making.{Entry, CastFrom, PartOf}
+use Rattle.cast_rules.specs.Making.{Entry, CastFrom, PartOf}
 use Rattle.blame_audit.specs.SafeLabels.{spoils}
 
 -- ---- entries that name labels and types that are there

@@ -2,7 +2,7 @@
 use Rattle.std.specs.Prelude.{◌≡◌, ◌≢◌, ℕ, zero, suc, Bool, true, ◌&&◌, not, cond, nat_eq}
 use Rattle.std.specs.Prelude.{List, [], ◌∷◌, ◌++◌, Option, Some, None, slice_get}
 use Rattle.grift_base.specs.Types.{TypeRows}
-use Rattle.cast_insert.specs.Making.{Entry, CastFrom, PartOf}
+use Rattle.cast_rules.specs.Making.{Entry, CastFrom, PartOf}
 use Rattle.blame_audit.specs.Up.{Up, up}
 
 -- ---- the definition

@@ -1,7 +1,7 @@
 // The audit: which labels of a program are safe.
 
 ghost use Rattle.std.specs.Prelude.{◌≡◌, ◌<◌, ◌↔◌, ℕ, true, Contains, IfOk, OnOk, length, replicate};
-ghost use Rattle.cast_insert.specs.Views.{entries_of, entry_of};
+ghost use Rattle.insert_steps.specs.Views.{entries_of, entry_of};
 ghost use Rattle.blame_audit.specs.Claims.{IsElaborated, NeverBlames, CastsStayUp, TellsNoSafeBlame, program_over};
 ghost use Rattle.blame_audit.specs.Claims.{safe_labels_in};
 ghost use Rattle.blame_audit.specs.SafeLabels.{IsSafe, spoils};
@@ -11,10 +11,10 @@ ghost use Rattle.blame_audit.specs.Views.{labels_of};
 
 use crate::pairs::Pair;
 use crate::ups::check;
-use cast_insert::casts::CastEntry;
 use cast_insert::insertion::Elab;
 use grift_base::lists::{Items, OutOfMemory};
 use grift_base::places::LabelId;
+use insert_steps::casts::CastEntry;
 use std::alloc::Global;
 use std::collections::HashSet;
 use type_graph::tables::TypeTable;

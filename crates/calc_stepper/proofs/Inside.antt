@@ -3,7 +3,7 @@ use Rattle.std.proofs.Common.{◌≡◌, refl}
 use Rattle.std.specs.Prelude.{Option, Some, None, is_some, true, false}
 use Rattle.grift_base.specs.World.{WorldState}
 use Rattle.core_calc.specs.Outcome.{Store, Outcome, Goes, Blames, Traps, Stuck, inside, if_some}
-use Rattle.calc_stepper.specs.Moves.{after, after_inside}
+use Rattle.core_redexes.specs.Moves.{after, after_inside}
 
 pub after_of_inside : {A B : Type 0} (place : A → B) (outcome : Outcome A) (old : A) (store : Store)
     (world : WorldState) → after (inside place outcome) (place old) store world

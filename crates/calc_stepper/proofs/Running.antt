@@ -13,7 +13,7 @@ use Rattle.core_calc.specs.declared.ends.Stepped.{Stepped}
 use Rattle.core_calc.specs.Step.{step}
 use Rattle.core_calc.specs.Terms.{Term}
 use Rattle.calc_stepper.specs.Ends.{end_after}
-use Rattle.calc_stepper.specs.Moves.{After, after}
+use Rattle.core_redexes.specs.Moves.{After, after}
 
 false_is_not_true : false ≡ true → ⊥
 false_is_not_true e = cc

@@ -4,8 +4,8 @@ use Rattle.std.proofs.lemmas.Result.{IfOk-weaker}
 use Rattle.std.proofs.Common.{Result}
 use Rattle.std.specs.Prelude.{IfOk}
 use Rattle.grift_base.specs.declared.lists.OutOfMemory.{OutOfMemory}
-use Rattle.calc_stepper.specs.declared.moves.Moved.{Moved}
-use Rattle.calc_stepper.specs.declared.moves.Moved.TheVariants.{Stuck as IsStuck}
+use Rattle.core_redexes.specs.declared.moves.Moved.{Moved}
+use Rattle.core_redexes.specs.declared.moves.Moved.TheVariants.{Stuck as IsStuck}
 use Rattle.std.specs.Prelude.{Option, Some, None, Bool, true, false, is_some, ◌&&◌, ◌||◌, not}
 use Rattle.grift_base.specs.World.{WorldState}
 use Rattle.grift_base.specs.Types.{TypeRows}
@@ -22,11 +22,11 @@ use Rattle.core_calc.specs.Operators.{operator_step}
 use Rattle.core_calc.specs.Step.{step, step_terms, step_bindings, if_step, let_step}
 use Rattle.core_calc.specs.declared.terms.Core.{Core}
 use Rattle.core_calc.specs.Views.{term_of}
-use Rattle.calc_stepper.specs.Moves.{After, Moves, MovesBy, after, after_inside}
-use Rattle.calc_stepper.specs.Redexes.{lambda_redex, group_redex, cast_redex, if_redex, let_redex, seq_redex}
-use Rattle.calc_stepper.specs.Redexes.{call_redex, enter_redex, proj_redex}
-use Rattle.calc_stepper.specs.Redexes.{proj_dyn_redex, tuple_redex, prim_redex, waits_for_first, enters_now, is_redex}
-use Rattle.calc_stepper.specs.Values.{wrapper_in}
+use Rattle.core_redexes.specs.Moves.{After, Moves, MovesBy, after, after_inside}
+use Rattle.core_redexes.specs.Redexes.{lambda_redex, group_redex, cast_redex, if_redex, let_redex, seq_redex}
+use Rattle.core_redexes.specs.Redexes.{call_redex, enter_redex, proj_redex}
+use Rattle.core_redexes.specs.Redexes.{proj_dyn_redex, tuple_redex, prim_redex, waits_for_first, enters_now, is_redex}
+use Rattle.core_redexes.specs.Values.{wrapper_in}
 use Rattle.calc_stepper.proofs.Inside.{after_of_inside, part_steps, redex_steps, passes, second_steps, both_step}
 
 none_is_some : {A : Type 0} (a : A) → is_some (Some a) ≡ false → ⊥

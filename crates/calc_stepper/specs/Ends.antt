@@ -4,8 +4,8 @@ use Rattle.core_calc.specs.declared.ends.Stepped.{Stepped}
 use Rattle.core_calc.specs.declared.ends.Stepped.TheVariants.{More}
 use Rattle.core_calc.specs.Calculus.{CalcEnd, Answered, Blamed, Trapped, NoStep, shown_value}
 use Rattle.core_calc.specs.Terms.{Term, as_value}
-use Rattle.calc_stepper.specs.declared.moves.Moved.{Moved}
-use Rattle.calc_stepper.specs.declared.moves.Moved.TheVariants.{Goes, Blames, Traps, Stuck}
+use Rattle.core_redexes.specs.declared.moves.Moved.{Moved}
+use Rattle.core_redexes.specs.declared.moves.Moved.TheVariants.{Goes, Blames, Traps, Stuck}
 
 -- the end, or that the run goes on
 abbrev pub end_or_more : Option Stepped → Stepped

@@ -1,10 +1,1 @@
-pub mod Moves
-pub mod Lists
-pub mod Entries
-pub mod Holes
-pub mod Values
-pub mod Redexes
 pub mod Ends
-pub mod Taken
-pub mod Turns
-pub mod Entered

@@ -9,12 +9,12 @@ ghost use Rattle.core_calc.specs.Terms.{as_value};
 ghost use Rattle.core_calc.specs.Views.{term_of, value_of};
 ghost use Rattle.calc_stepper.specs.Ends.{end_after, end_or_more};
 
-use crate::copies::copy_term;
-use crate::moves::Moved;
 use crate::steps::step_term;
 use core_calc::ends::Stepped;
 use core_calc::states::{CalcState, Cells};
 use core_calc::terms::{Core, Value};
+use core_redexes::moves::Moved;
+use core_terms::copies::copy_term;
 use grift_base::lists::{Bytes, OutOfMemory};
 use grift_base::verdicts::{Answer, AnswerKind};
 use grift_base::worlds::World;

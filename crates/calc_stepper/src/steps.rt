@@ -3,22 +3,22 @@
 ghost use Rattle.std.specs.Prelude.{◌≡◌, IfOk, OnErr, true};
 ghost use Rattle.core_calc.specs.States.{store_of};
 ghost use Rattle.core_calc.specs.Step.{step, step_bindings, step_terms};
-ghost use Rattle.calc_stepper.specs.Redexes.{enters_now, if_redex, is_redex, lambda_redex, seq_redex};
-ghost use Rattle.calc_stepper.specs.Redexes.{tuple_redex, waits_for_first};
+ghost use Rattle.core_redexes.specs.Redexes.{enters_now, if_redex, is_redex, lambda_redex, seq_redex, tuple_redex};
+ghost use Rattle.core_redexes.specs.Redexes.{waits_for_first};
 ghost use Rattle.core_calc.specs.Terms.{as_value};
-ghost use Rattle.calc_stepper.specs.Taken.{taken_values};
+ghost use Rattle.core_redexes.specs.Taken.{taken_values};
 ghost use Rattle.core_calc.specs.Views.{bindings_of, term_of, terms_of, values_of};
-ghost use Rattle.calc_stepper.specs.Moves.{MovesBy, after};
+ghost use Rattle.core_redexes.specs.Moves.{MovesBy, after};
 
-use crate::calls::{call_redex, enter_redex, group_redex, let_redex};
-use crate::casts::{cast_redex, proj_dyn_redex, proj_redex};
-use crate::copies::copy_as_value;
-use crate::forms::{are_bound, are_values, is_value, wrapper_of};
-use crate::lists::{bindings_onto, terms_onto, value_then, values_onto};
-use crate::moves::Moved;
-use crate::operators::prim_redex;
 use core_calc::states::Cells;
 use core_calc::terms::{Core, CoreBindings, CoreList, Value, Values, VarIds};
+use core_redexes::calls::{call_redex, enter_redex, group_redex, let_redex};
+use core_redexes::casts::{cast_redex, proj_dyn_redex, proj_redex};
+use core_redexes::forms::{are_bound, are_values, is_value, wrapper_of};
+use core_redexes::moves::Moved;
+use core_redexes::operators::prim_redex;
+use core_terms::copies::copy_as_value;
+use core_terms::lists::{bindings_onto, terms_onto, value_then, values_onto};
 use grift_base::lists::OutOfMemory;
 use grift_base::made::boxed;
 use grift_base::worlds::World;
@@ -118,7 +118,7 @@ fn taken_values(alloc: Global, terms: &CoreList) -> Result<Values, OutOfMemory>
 }
 
 // A tuple of values becomes a value.
-#[tactic(auto, using(crate::proofs::Taking::tuple_taken))]
+#[tactic(auto, using(core_redexes::proofs::Public::tuple_taken))]
 fn tuple_redex(alloc: Global, term: &mut Core) -> Result<Moved, OutOfMemory>
     ensures moves { IfOk result (MovesBy tuple_redex (term_of term.old) (term_of term.new)) }
     ensures stays { OnErr result (term_of term.new ≡ term_of term.old) }

@@ -11,8 +11,8 @@ use Rattle.core_calc.specs.Terms.{IntLit, BoolLit, UnitLit, Cast, Proj, ProjDyn,
 use Rattle.surface_trees.specs.declared.names.Ident.TheVariants.{Source}
 use Rattle.surface_trees.specs.Trees.{ExprAt, UnitNode, LetNode, AscribeNode, TupleNode, ProjNode, PrimNode, NoLets}
 use Rattle.surface_trees.specs.Trees.{LetThen}
-use Rattle.cast_insert.specs.Making.{then_make, Makes, Work, CastFrom, PartOf}
-use Rattle.cast_insert.specs.Elaboration.{elaborate_program}
+use Rattle.cast_rules.specs.Making.{then_make, Makes, Work, CastFrom, PartOf}
+use Rattle.cast_rules.specs.Elaboration.{elaborate_program}
 use Rattle.cast_insert.specs.Outcomes.{IsRefused}
 use Rattle.cast_insert.proofs.Sketches.{at, answer, comes_to, int, truth, name, exprs, base}
 

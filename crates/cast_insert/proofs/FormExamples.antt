@@ -10,8 +10,8 @@ use Rattle.surface_trees.specs.declared.names.Ident.TheVariants.{Source}
 use Rattle.surface_trees.specs.Trees.{TypeAt, RefType, ExprAt, UnitNode, LambdaNode, CallNode, LetNode, LetrecNode}
 use Rattle.surface_trees.specs.Trees.{IfNode, BeginNode, AscribeNode, TupleNode, PrimNode, LambdaAt, NoLets, LetThen}
 use Rattle.surface_trees.specs.Trees.{NoLetrecs, LetrecThen}
-use Rattle.cast_insert.specs.Making.{then_make, Makes, Refuses, CastFrom}
-use Rattle.cast_insert.specs.Elaboration.{elaborate_program}
+use Rattle.cast_rules.specs.Making.{then_make, Makes, Refuses, CastFrom}
+use Rattle.cast_rules.specs.Elaboration.{elaborate_program}
 use Rattle.cast_insert.specs.Outcomes.{IsRefused}
 use Rattle.cast_insert.proofs.Sketches.{at, answer, comes_to, int, truth, name, exprs, param, base, fun_type}
 

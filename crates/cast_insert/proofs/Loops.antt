@@ -1,35 +1,30 @@
 -- Lists that are elaborated element by element: those that are done, and what is made behind them.
-use Rattle.std.proofs.Common.{◌≡◌, List, [], ◌∷◌, ◌++◌, refl, sym, ap, ◌∙◌, subst}
-use Rattle.std.proofs.Common.{append_assoc, append-nil, Option}
+use Rattle.std.proofs.Common.{◌≡◌, List, [], ◌∷◌, ◌++◌, refl, sym, ap, ◌∙◌, append_assoc, append-nil, Option, ℕ}
 use Rattle.std.proofs.lemmas.List.{map-append}
 use Rattle.grift_base.specs.declared.places.Pos.{Pos}
 use Rattle.grift_base.specs.declared.refusals.RefusalKind.{RefusalKind}
 use Rattle.surface_trees.specs.declared.names.Ident.{Ident}
-use Rattle.std.proofs.Common.{ℕ}
 use Rattle.grift_base.specs.Types.{UnitRow, BoolRow}
 use Rattle.type_graph.specs.Forming.{intern}
-use Rattle.core_calc.specs.Terms.{Term, NoTerms, TermThen, NoBindings, BindingThen, Binding, Members, Member}
-use Rattle.core_calc.specs.Terms.{NoMembers, MemberThen}
-use Rattle.surface_trees.specs.Trees.{TypeExpr, LambdaExpr, LetrecMembers, NoLetrecs, LetrecThen, Expr, Exprs}
-use Rattle.surface_trees.specs.Trees.{NoExprs, ExprThen, LetBindings, NoLets, LetThen, IfNode}
-use Rattle.std.specs.Prelude.{Result, Err}
-use Rattle.grift_base.specs.declared.refusals.FrontFault.{FrontFault}
-use Rattle.grift_base.specs.declared.refusals.FrontFault.TheVariants.{Refused, OutOfMemory}
-use Rattle.cast_insert.specs.Views.{Answers}
-use Rattle.cast_insert.specs.Sources.{place_of}
-use Rattle.cast_insert.specs.Making.{Typed, form, fresh, cast_if, cast_to_row, written_if}
-use Rattle.cast_insert.specs.Environments.{plain}
-use Rattle.cast_insert.specs.Elaboration.{Sequence, Bound, MemberBody, elaborate, elaborate_node, elaborate_sequence}
-use Rattle.cast_insert.specs.Elaboration.{elaborate_bindings, elaborate_member, elaborate_members}
-use Rattle.cast_insert.specs.Gathered.{terms_onto, if_of}
-use Rattle.cast_insert.specs.Bodies.{bindings_onto, bound_value, members_onto}
+use Rattle.core_calc.specs.Terms.{Term, NoTerms, TermThen, NoBindings, BindingThen, Binding, Members, Member, NoMembers}
+use Rattle.core_calc.specs.Terms.{MemberThen}
+use Rattle.surface_trees.specs.Trees.{TypeExpr, LambdaExpr, LetrecMembers, NoLetrecs, LetrecThen, Expr, Exprs, NoExprs}
+use Rattle.surface_trees.specs.Trees.{ExprThen, LetBindings, NoLets, LetThen, IfNode}
+use Rattle.cast_rules.specs.Sources.{place_of}
+use Rattle.cast_rules.specs.Making.{Typed, form, fresh, cast_if, cast_to_row, written_if, Work, Made, Makes, Refuses}
+use Rattle.cast_rules.specs.Making.{Making, then_make, ◌>>=◌, give}
+use Rattle.cast_rules.specs.Environments.{plain, Environment, Meaning, Head, head_of, heads_of, names_of_heads}
+use Rattle.cast_rules.specs.Environments.{with_names}
+use Rattle.cast_rules.specs.Elaboration.{Sequence, Bound, MemberBody, elaborate, elaborate_node, elaborate_sequence}
+use Rattle.cast_rules.specs.Elaboration.{elaborate_bindings, elaborate_member, elaborate_members}
+use Rattle.insert_steps.specs.Gathered.{if_of}
+use Rattle.cast_insert.specs.Bodies.{bound_value}
 use Rattle.cast_insert.specs.declared.heads.Head.{Head as RustHead}
-use Rattle.cast_insert.specs.Making.{Work, Made, Makes, Refuses, Making, then_make, ◌>>=◌, give}
-use Rattle.cast_insert.specs.Environments.{Environment, Meaning, Head, head_of, heads_of, names_of_heads, with_names}
 use Rattle.cast_insert.specs.Heads.{head_seen, heads_seen}
-use Rattle.cast_insert.proofs.Steps.{steps}
+use Rattle.cast_rules.proofs.Public.{steps}
 use Rattle.cast_insert.proofs.Bodies.{body_steps}
-use Rattle.cast_insert.proofs.Scoping.{with_names_push}
+use Rattle.insert_steps.proofs.Public.{with_names_push}
+use Rattle.insert_steps.specs.Onto.{terms_onto, bindings_onto, members_onto}
 
 -- what was made, as something else
 abbrev pub made_as : {A B : Type 0} → (A → B) → Made A → Made B
@@ -284,46 +279,7 @@ pub ruleset loop_steps = (
   members_none,
 )
 
--- ---- refusals and want of memory in a loop
-
-abbrev pub failed_with : {C : Type 0} → FrontFault → Result C FrontFault
-failed_with fault = Err fault
-
--- where the whole is refused as the part is, what the part answers is what the whole answers
-pub failed_as : {R S A B : Type 0} (fault : FrontFault) (view : S → A) (seen : R → B) (result : Result R FrontFault)
-    (after : Work) (part : Made A) (whole : Made B) → result ≡ Err fault →
-    Answers (failed_with fault) view after part →
-    ((kind : RefusalKind) (place : Pos) (last : Work) → part ≡ Refuses kind place last →
-    whole ≡ Refuses kind place last) →
-    Answers result seen after whole
-failed_as {R} {S} {A} {B} (Refused refusal) view seen result after part whole e answer same =
-    subst (λ (r : Result R FrontFault). Answers r seen after whole) (sym e) (same refusal.kind refusal.pos after answer)
-failed_as {R} {S} {A} {B} OutOfMemory view seen result after part whole e answer same =
-    subst (λ (r : Result R FrontFault). Answers r seen after whole) (sym e) tt
-
 -- ---- an `if`
-
--- the first step fails, and so do all
-pub failed_first : {R S A B : Type 0} (fault : FrontFault) (view : S → A) (seen : R → B) (result : Result R FrontFault)
-    (after : Work) (made : Made A) (next : A → Making B) → result ≡ Err fault →
-    Answers (failed_with fault) view after made → Answers result seen after (then_make made next)
-unfolding then_make
-failed_first fault view seen result after made next e answer =
-    failed_as fault view seen result after made (then_make made next) e answer
-    (λ kind place last refused. ap (λ m. then_make m next) refused)
-
--- the first step was made, and what is left answers
-pub made_first : {R A B : Type 0} (seen : R → B) (result : Result R FrontFault) (after : Work) (made : Made A)
-    (next : A → Making B) (a : A) (work : Work) → made ≡ Makes a work → Answers result seen after (next a work) →
-    Answers result seen after (then_make made next)
-unfolding then_make
-made_first seen result after made next a work e answer =
-    subst (λ (m : Made _). Answers result seen after (then_make m next)) (sym e) answer
-
-pub made_then : {A B : Type 0} (made : Made A) (next : A → Making B) (a : A) (work : Work) (whole : Made B) →
-    made ≡ Makes a work → next a work ≡ whole → then_make made next ≡ whole
-unfolding then_make
-made_then made next a work whole e rest = ap (λ m. then_make m next) e ∙ rest
 
 -- what is left of an `if` when its condition is there, when that is cast, and when its first branch is there
 abbrev if_from : Expr → Expr → Expr → Pos → Environment → Typed → Making Typed

@@ -7,8 +7,8 @@ use Rattle.surface_trees.specs.declared.names.Ident.TheVariants.{Source}
 use Rattle.surface_trees.specs.Trees.{TypeExpr, TypeExprs, TypeAt, BaseType, FunType, TupleType, NoTypes, TypeThen}
 use Rattle.surface_trees.specs.Trees.{Param}
 use Rattle.surface_trees.specs.Trees.{Expr, Exprs, ExprAt, IntNode, BoolNode, NameNode, NoExprs, ExprThen}
-use Rattle.cast_insert.specs.Making.{Typed}
-use Rattle.cast_insert.specs.Elaboration.{elaborate_program}
+use Rattle.cast_rules.specs.Making.{Typed}
+use Rattle.cast_rules.specs.Elaboration.{elaborate_program}
 use Rattle.cast_insert.specs.Outcomes.{Outcome, outcome_of}
 
 abbrev pub at : ℕ → Pos

@@ -1,11 +1,10 @@
 -- What bodies, bindings and operands are gathered in, and what is then left to do.
-use Rattle.std.specs.Prelude.{ℕ, List, [], ◌∷◌, Option}
+use Rattle.std.specs.Prelude.{ℕ, List, Option}
 use Rattle.grift_base.specs.declared.places.Pos.{Pos}
 use Rattle.grift_base.specs.declared.operators.PrimOp.{PrimOp}
 use Rattle.grift_base.specs.Types.{FunRow}
 use Rattle.type_graph.specs.Forming.{intern}
-use Rattle.core_calc.specs.Terms.{Members, Bindings, MemberThen, BindingThen, Lambda, Prim}
-use Rattle.core_calc.specs.Terms.{Member, Binding}
+use Rattle.core_calc.specs.Terms.{Lambda, Prim}
 use Rattle.core_calc.specs.Views.{term_of, terms_of, bindings_of, names_of}
 use Rattle.surface_trees.specs.declared.names.Ident.{Ident}
 use Rattle.surface_trees.specs.declared.exprs.Binding.{Binding as RustBinding, out-Binding}
@@ -15,13 +14,13 @@ use Rattle.cast_insert.specs.declared.elaboration.Sequence.{Sequence as RustSequ
 use Rattle.cast_insert.specs.declared.elaboration.Bound.{Bound as RustBound}
 use Rattle.cast_insert.specs.declared.elaboration.Gathered.{Gathered}
 use Rattle.cast_insert.specs.declared.elaboration.MemberBody.{MemberBody as RustMemberBody}
-use Rattle.cast_insert.specs.Sources.{last_place, place_of}
-use Rattle.cast_insert.specs.Making.{Making, ◌>>=◌, give, form, Typed, typed, cast_if, cast_to, written_if}
-use Rattle.cast_insert.specs.Environments.{Environment, with_names, variables}
-use Rattle.cast_insert.specs.Elaboration.{Sequence, seq, Bound, Operands, MemberBody, elaborate, elaborate_sequence}
-use Rattle.cast_insert.specs.Operators.{answer_of, answer_type}
-use Rattle.cast_insert.specs.Scoped.{env_of}
-use Rattle.cast_insert.specs.Views.{place_if}
+use Rattle.cast_rules.specs.Sources.{last_place, place_of}
+use Rattle.cast_rules.specs.Making.{Making, ◌>>=◌, give, form, Typed, typed, cast_if, cast_to, written_if}
+use Rattle.cast_rules.specs.Environments.{Environment, with_names, variables}
+use Rattle.cast_rules.specs.Elaboration.{Sequence, seq, Bound, Operands, MemberBody, elaborate, elaborate_sequence}
+use Rattle.cast_rules.specs.Operators.{answer_of, answer_type}
+use Rattle.insert_steps.specs.Scoped.{env_of}
+use Rattle.insert_steps.specs.Views.{place_if}
 
 abbrev pub sequence_of : RustSequence → Sequence
 sequence_of sequence = record { terms = terms_of sequence.terms; type = sequence.ty.0 }
@@ -34,17 +33,6 @@ gathered_of gathered = record { terms = terms_of gathered.terms; content = place
 
 abbrev pub body_of : RustMemberBody → MemberBody
 body_of body = record { variables = names_of body.variables; body = term_of body.body.value }
-
--- bindings behind these, of which the last one stands first
-abbrev pub bindings_onto : List Binding → Bindings → Bindings
-bindings_onto [] bindings = bindings
-bindings_onto (one ∷ before) bindings = bindings_onto before (BindingThen one.name one.bound bindings)
-
--- members behind these, of which the last one stands first
-abbrev pub members_onto : List Member → Members → Members
-members_onto [] members = members
-members_onto (one ∷ before) members =
-    members_onto before (MemberThen one.name one.parameters one.body one.type members)
 
 -- a binding's name, its written type, and its value
 abbrev pub bound_name_in : RustBinding → Ident

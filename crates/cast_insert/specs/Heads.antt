@@ -7,8 +7,8 @@ use Rattle.surface_trees.specs.Trees.{TypeExpr, LambdaExpr}
 use Rattle.surface_trees.specs.Views.{lambda_of, written_of}
 use Rattle.type_graph.specs.Rows.{places_of}
 use Rattle.cast_insert.specs.declared.heads.Head.{Head as RustHead}
-use Rattle.cast_insert.specs.Environments.{Head}
-use Rattle.cast_insert.specs.Views.{meaning_seen}
+use Rattle.cast_rules.specs.Environments.{Head}
+use Rattle.insert_steps.specs.Views.{meaning_seen}
 
 abbrev pub name_in : Member → Ident
 name_in member = (out-Member member).name

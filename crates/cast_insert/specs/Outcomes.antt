@@ -8,8 +8,8 @@ use Rattle.grift_base.specs.declared.refusals.FrontFault.TheVariants.{Refused, O
 use Rattle.core_calc.specs.Terms.{Term}
 use Rattle.core_calc.specs.Views.{term_of}
 use Rattle.cast_insert.specs.declared.insertion.Elab.{Elab}
-use Rattle.cast_insert.specs.Making.{Entry, Made, Makes, Refuses, Typed}
-use Rattle.cast_insert.specs.Views.{entries_of}
+use Rattle.cast_rules.specs.Making.{Entry, Made, Makes, Refuses, Typed}
+use Rattle.insert_steps.specs.Views.{entries_of}
 
 -- a program: its term, its type, and the tables that it made; or its first refusal
 pub data Outcome : Type 0 where

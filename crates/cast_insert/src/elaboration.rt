@@ -1,45 +1,36 @@
 // The elaboration of expressions, form by form.
-#![tactic(auto, using(crate::proofs::Rules::loop_rules), unfolding(crate::specs::Making::then_make))]
+#![tactic(auto, using(crate::proofs::LoopRules::loop_rules), unfolding(cast_rules::specs::Making::then_make))]
 
 ghost use Rattle.std.specs.Prelude.{◌≡◌, ◌≤◌, ◌==◌, ◌∷◌, ◌++◌, [], None, IfOk, OnOk, length, map};
 ghost use Rattle.grift_base.specs.Types.{row_at};
 ghost use Rattle.grift_base.specs.declared.places.Pos.{Pos};
 ghost use Rattle.type_graph.specs.Rows.{places_of};
 ghost use Rattle.type_graph.specs.TypeTables.{MayBePart};
-ghost use Rattle.core_calc.specs.Terms.{Group, Let, NoBindings, NoMembers, Seq, binding_list, member_list};
-ghost use Rattle.core_calc.specs.Terms.{term_list};
+ghost use Rattle.core_calc.specs.Terms.{Group, Let, NoBindings, NoMembers, Seq, binding_list, member_list, term_list};
 ghost use Rattle.core_calc.specs.Views.{bindings_of, members_of, names_of, term_of, terms_of};
 ghost use Rattle.surface_trees.specs.Trees.{AscribeNode, BeginNode, PrimNode, TupleNode};
 ghost use Rattle.surface_trees.specs.Views.{expr_of, exprs_of, lambda_of, lets_of, letrecs_of, node_of, type_of};
-ghost use Rattle.cast_insert.specs.Sources.{how_many, last_place, place_of};
-ghost use Rattle.cast_insert.specs.Making.{Makes, typed};
-ghost use Rattle.cast_insert.specs.Environments.{plain, with_names};
-ghost use Rattle.cast_insert.specs.Calls.{call_by};
-ghost use Rattle.cast_insert.specs.Elaboration.{elaborate, elaborate_node, elaborate_all, elaborate_each};
-ghost use Rattle.cast_insert.specs.Elaboration.{elaborate_operands, elaborate_sequence, elaborate_bindings};
-ghost use Rattle.cast_insert.specs.Elaboration.{elaborate_lambda, elaborate_member, elaborate_members, seq};
-ghost use Rattle.cast_insert.specs.Programs.{AreSources, IsSource, IsSourceBody, IsSourceLambda, IsSourceNode};
-ghost use Rattle.cast_insert.specs.Programs.{AreSourceBindings, AreSourceMembers, MayBeWritten};
-ghost use Rattle.cast_insert.specs.Room.{AreParts, Grows, MayPart};
-ghost use Rattle.cast_insert.specs.Scoped.{env_of};
-ghost use Rattle.cast_insert.specs.Seen.{operand_seen};
+ghost use Rattle.cast_rules.specs.Sources.{how_many, last_place, place_of};
+ghost use Rattle.cast_rules.specs.Making.{Makes, typed};
+ghost use Rattle.cast_rules.specs.Environments.{plain, with_names};
+ghost use Rattle.cast_rules.specs.Calls.{call_by};
+ghost use Rattle.cast_rules.specs.Elaboration.{elaborate, elaborate_node, elaborate_all, elaborate_each};
+ghost use Rattle.cast_rules.specs.Elaboration.{elaborate_operands, elaborate_sequence, elaborate_bindings};
+ghost use Rattle.cast_rules.specs.Elaboration.{elaborate_lambda, elaborate_member, elaborate_members, seq};
+ghost use Rattle.cast_rules.specs.Programs.{AreSources, IsSource, IsSourceBody, IsSourceLambda, IsSourceNode};
+ghost use Rattle.cast_rules.specs.Programs.{AreSourceBindings, AreSourceMembers, MayBeWritten};
+ghost use Rattle.cast_rules.specs.Room.{AreParts, Grows, MayPart};
+ghost use Rattle.insert_steps.specs.Scoped.{env_of};
+ghost use Rattle.insert_steps.specs.Seen.{operand_seen};
 ghost use Rattle.cast_insert.specs.Heads.{head_seen, heads_seen};
-ghost use Rattle.cast_insert.specs.Gathered.{given_of};
-ghost use Rattle.cast_insert.specs.Bodies.{bindings_onto, body_of, bound_name_in, bound_of, bound_value, function_of};
-ghost use Rattle.cast_insert.specs.Bodies.{gathered_of, lambda_rest, lambda_with, member_with, members_onto};
-ghost use Rattle.cast_insert.specs.Bodies.{operation_on, sequence_of, type_in, value_in};
-ghost use Rattle.cast_insert.specs.Views.{Answers, place_if, typed_of, work_of};
+ghost use Rattle.insert_steps.specs.Gathered.{given_of};
+ghost use Rattle.cast_insert.specs.Bodies.{body_of, bound_name_in, bound_of, bound_value, function_of, gathered_of};
+ghost use Rattle.cast_insert.specs.Bodies.{lambda_rest, lambda_with, member_with, operation_on, sequence_of, type_in};
+ghost use Rattle.cast_insert.specs.Bodies.{value_in};
+ghost use Rattle.insert_steps.specs.Views.{Answers, place_if, typed_of, work_of};
+ghost use Rattle.insert_steps.specs.Onto.{bindings_onto, members_onto};
 
-use crate::copies::refused;
 use crate::heads::{Head, heads};
-use crate::joining::{
-    Given, Placed, called_dyn, given_first, joined, literal, plain, projected, terms_first, tuple,
-    turned, used,
-};
-use crate::names::{Meaning, Named, Scopes};
-use crate::operands::{Operand, answer_type, fitted, operands_of};
-use crate::parameters::{bind_names, parameter_types, plain_name, variables_of};
-use crate::progress::{Progress, Typed};
 use core_calc::terms::{
     Core, CoreBinding, CoreBindings, CoreList, GroupMember, GroupMembers, VarId, VarIds,
 };
@@ -48,6 +39,15 @@ use grift_base::made::boxed;
 use grift_base::operators::PrimOp;
 use grift_base::places::{Pos, TypeId};
 use grift_base::refusals::{FrontFault, RefusalKind};
+use insert_steps::copies::refused;
+use insert_steps::joining::{
+    Given, Placed, called_dyn, given_first, joined, literal, plain, projected, terms_first, tuple,
+    turned, used,
+};
+use insert_steps::names::{Meaning, Named, Scopes};
+use insert_steps::operands::{Operand, answer_type, fitted, operands_of};
+use insert_steps::parameters::{bind_names, parameter_types, plain_name, variables_of};
+use insert_steps::progress::{Progress, Typed};
 use std::alloc::Global;
 use surface_trees::exprs::{Binding, Bindings, Expr, ExprList, ExprNode, LambdaExpr, Members};
 use surface_trees::types::TypeExpr;

@@ -1,25 +1,24 @@
 // The heads of a `letrec`.
-#![tactic(auto, using(crate::proofs::Rules::head_rules), unfolding(crate::specs::Making::then_make))]
+#![tactic(auto, using(crate::proofs::LoopRules::head_rules), unfolding(cast_rules::specs::Making::then_make))]
 
 ghost use Rattle.std.specs.Prelude.{◌≡◌, ◌≤◌, ◌∷◌, ◌++◌, [], true, IfOk, OnOk, length};
 ghost use Rattle.type_graph.specs.Rows.{places_of};
 ghost use Rattle.type_graph.specs.TypeTables.{MayBePart};
-ghost use Rattle.surface_trees.specs.Views.{lambda_of, letrecs_of, written_of};
-ghost use Rattle.cast_insert.specs.Environments.{head_of, head_of_types, heads_of, names_of_heads, with_names};
-ghost use Rattle.cast_insert.specs.Environments.{consistent_if};
-ghost use Rattle.cast_insert.specs.Heads.{head_seen, heads_seen, lambda_in, name_in, place_in};
-ghost use Rattle.cast_insert.specs.Heads.{written_in};
-ghost use Rattle.cast_insert.specs.Programs.{AreSourceMembers, IsSourceLambda, MayBeWritten};
-ghost use Rattle.cast_insert.specs.Room.{AreParts, Grows};
-ghost use Rattle.cast_insert.specs.Views.{Answers, place_if, work_of};
+ghost use Rattle.surface_trees.specs.Views.{letrecs_of};
+ghost use Rattle.cast_rules.specs.Environments.{head_of, head_of_types, heads_of, names_of_heads, with_names};
+ghost use Rattle.cast_rules.specs.Environments.{consistent_if};
+ghost use Rattle.cast_insert.specs.Heads.{head_seen, heads_seen, lambda_in, name_in, place_in, written_in};
+ghost use Rattle.cast_rules.specs.Programs.{AreSourceMembers, IsSourceLambda, MayBeWritten};
+ghost use Rattle.cast_rules.specs.Room.{AreParts, Grows};
+ghost use Rattle.insert_steps.specs.Views.{Answers, place_if, work_of};
 
-use crate::copies::copy_of_name;
-use crate::names::{Meaning, Scopes};
-use crate::parameters::{parameter_types, type_or_dyn};
-use crate::progress::Progress;
 use grift_base::lists::OutOfMemory;
 use grift_base::places::{Pos, TypeId};
 use grift_base::refusals::FrontFault;
+use insert_steps::copies::copy_of_name;
+use insert_steps::names::{Meaning, Scopes};
+use insert_steps::parameters::{parameter_types, type_or_dyn};
+use insert_steps::progress::Progress;
 use std::alloc::Global;
 use surface_trees::exprs::{Member, Members};
 use surface_trees::names::Ident;

@@ -1,23 +1,23 @@
 // Programs with their casts.
-#![tactic(auto, using(crate::proofs::Elaborated::program_answered))]
+#![tactic(auto, using(cast_rules::proofs::Public::program_answered))]
 
 ghost use Rattle.std.specs.Prelude.{◌≡◌, [], IfErr, IfOk, length};
 ghost use Rattle.type_graph.specs.TypeTables.{IsOrderedTable};
 ghost use Rattle.core_calc.specs.Typing.{ProgramTermHasType};
 ghost use Rattle.core_calc.specs.Views.{term_of};
 ghost use Rattle.surface_trees.specs.Views.{expr_of};
-ghost use Rattle.cast_insert.specs.Elaboration.{elaborate_program, nothing_yet};
-ghost use Rattle.cast_insert.specs.Programs.{IsSource};
+ghost use Rattle.cast_rules.specs.Elaboration.{elaborate_program, nothing_yet};
+ghost use Rattle.cast_rules.specs.Programs.{IsSource};
 ghost use Rattle.cast_insert.specs.Outcomes.{HasRowsAfter, Inserts};
-ghost use Rattle.cast_insert.specs.Views.{Answers, typed_of, work_of};
+ghost use Rattle.insert_steps.specs.Views.{Answers, typed_of, work_of};
 
-use crate::casts::CastList;
 use crate::elaboration::elaborate;
-use crate::names::Scopes;
-use crate::progress::{Progress, Typed};
 use core_calc::terms::Core;
 use grift_base::places::{LabelTable, TypeId};
 use grift_base::refusals::FrontFault;
+use insert_steps::casts::CastList;
+use insert_steps::names::Scopes;
+use insert_steps::progress::{Progress, Typed};
 use std::alloc::Global;
 use std::mem;
 use surface_trees::exprs::Program;

@@ -19,7 +19,7 @@ pub fn narrow(n: u64) -> Result<u32, OutOfMemory>
 }
 
 /// What names become that are numbered.
-#[derive(Clone, Copy, PartialEq, Eq, Debug)]
+#[derive(Clone, Copy, PartialEq, Eq)]
 pub enum Kind {
     /// Local names.
     Local,

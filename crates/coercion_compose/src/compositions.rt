@@ -24,7 +24,7 @@ use std::collections::HashMap;
 use type_graph::tables::TypeTable;
 
 /// Two coercions, one after the other.
-#[derive(Clone, Copy, PartialEq, Eq, Hash, Debug)]
+#[derive(Clone, Copy, PartialEq, Eq, Hash)]
 pub struct Pair {
     pub first: CoercionId,
     pub second: CoercionId,

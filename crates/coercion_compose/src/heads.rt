@@ -15,7 +15,7 @@ use grift_base::places::{LabelId, TypeId};
 use std::alloc::Global;
 
 /// A coercion without the parts of its middle.
-#[derive(Clone, Copy, PartialEq, Eq, Debug)]
+#[derive(Clone, Copy, PartialEq, Eq)]
 pub enum Head {
     /// Changes nothing.
     Id,

@@ -9,7 +9,7 @@ use grift_base::places::TypeId;
 use type_graph::rows::Row;
 
 /// The constructor of a middle: of a coercion between two functions, tuples, references or vectors.
-#[derive(Clone, Copy, PartialEq, Eq, Debug)]
+#[derive(Clone, Copy, PartialEq, Eq)]
 pub enum MiddleKind {
     /// Its parts are those of the arguments, then that of the result.
     Fun,

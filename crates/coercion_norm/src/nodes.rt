@@ -9,7 +9,7 @@ use grift_base::places::{LabelId, TypeId};
 use std::alloc::Global;
 
 /// A place in a table of coercions, from 0.
-#[derive(Clone, Copy, PartialEq, Eq, Hash, Debug)]
+#[derive(Clone, Copy, PartialEq, Eq, Hash)]
 pub struct CoercionId(pub u32);
 
 /// Coercions in order, by their places in a table.

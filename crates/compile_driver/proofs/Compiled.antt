@@ -3,8 +3,8 @@ use Rattle.std.proofs.Common.{◌≡◌, ℕ, List, length}
 use Rattle.core_calc.specs.Calculus.{Program}
 use Rattle.core_calc.specs.Typing.{ProgramTermHasType}
 use Rattle.surface_trees.specs.Trees.{Expr}
-use Rattle.cast_insert.specs.Making.{Entry}
-use Rattle.cast_insert.specs.Elaboration.{elaborate_program}
+use Rattle.cast_rules.specs.Making.{Entry}
+use Rattle.cast_rules.specs.Elaboration.{elaborate_program}
 use Rattle.cast_insert.specs.Outcomes.{Elaborates, outcome_of}
 use Rattle.front_end.specs.Texts.{ReadsAs}
 use Rattle.compile_driver.specs.Compiling.{HasProgram}

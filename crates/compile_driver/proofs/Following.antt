@@ -65,7 +65,7 @@ use Rattle.lower.specs.Sets.{with_casts}
 use Rattle.lower.proofs.Public.{words_follow_procedures-storage, words_keep_the_account}
 use Rattle.lower.proofs.Public.{procedures_are_narrow}
 use Rattle.lower.proofs.Public.{AreSized}
-use Rattle.reg_assign.specs.Slotted.{room_in}
+use Rattle.placed_code.specs.Slotted.{room_in}
 use Rattle.reg_assign.specs.Images.{ExceedsStack, FollowsWords, HasRegionOf, IsImageOfWords}
 use Rattle.compile_driver.specs.Compiling.{FollowsProgram}
 use Rattle.compile_driver.specs.Space.{KeepsSpace, KeepsStorage}

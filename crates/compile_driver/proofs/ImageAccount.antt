@@ -52,7 +52,7 @@ use Rattle.lower.proofs.Public.{programs_want_no_room}
 use Rattle.lower.proofs.Public.{numbered_words}
 use Rattle.rv_select.specs.Prices.{start_price}
 use Rattle.rv_select.specs.Stacks.{frames_size}
-use Rattle.reg_assign.specs.Slotted.{room_in}
+use Rattle.placed_code.specs.Slotted.{room_in}
 use Rattle.reg_assign.specs.Images.{HasRegionOf}
 use Rattle.compile_driver.specs.Bounds.{KeepsAccount, RegionLacks, StackLacks, stop_after}
 use Rattle.compile_driver.proofs.CalculusAccount.{live, one_step}

@@ -9,9 +9,9 @@ use Rattle.core_calc.specs.Typing.{ProgramTermHasType}
 use Rattle.core_calc.specs.Views.{term_of}
 use Rattle.surface_trees.specs.Trees.{Expr}
 use Rattle.cast_insert.specs.declared.insertion.Elab.{Elab}
-use Rattle.cast_insert.specs.Making.{Entry}
+use Rattle.cast_rules.specs.Making.{Entry}
 use Rattle.cast_insert.specs.Outcomes.{Elaborates}
-use Rattle.cast_insert.specs.Views.{entries_of}
+use Rattle.insert_steps.specs.Views.{entries_of}
 use Rattle.coer_core.specs.Conversion.{casts_in, with_casts}
 use Rattle.coer_core.specs.Programs.{tallest_of}
 use Rattle.front_end.specs.Texts.{ElaboratesTo, HasOutcome, IsProgramOf}

@@ -4,7 +4,7 @@ use grift_base::places::LabelId;
 use grift_base::verdicts::{Answer, Trap};
 
 /// What stands after a step of the calculus.
-#[derive(Clone, Copy, PartialEq, Eq, Debug)]
+#[derive(Clone, Copy, PartialEq, Eq)]
 pub enum Stepped {
     /// The run goes on.
     More,

@@ -11,7 +11,7 @@ use std::alloc::{AllocFailed, Global};
 use std::marker::Model;
 
 /// Why no type was found.
-#[derive(Clone, Copy, PartialEq, Eq, Debug)]
+#[derive(Clone, Copy, PartialEq, Eq)]
 pub enum Untyped {
     /// The term has none.
     NoType,

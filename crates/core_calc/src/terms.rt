@@ -14,7 +14,7 @@ use std::alloc::Global;
 use std::mem;
 
 /// The number of a name, which its binder has alone.
-#[derive(Clone, Copy, PartialEq, Eq, Hash, Debug)]
+#[derive(Clone, Copy, PartialEq, Eq)]
 pub struct VarId(pub u32);
 
 /// Names in order.

@@ -18,7 +18,7 @@ const MOST_PARTS: u64 = 8;
 const MOST_OPERANDS: u64 = 8;
 
 /// What a procedure knows beside its local names: how many names it has captured, and how many functions its group has.
-#[derive(Clone, Copy, PartialEq, Eq, Debug)]
+#[derive(Clone, Copy, PartialEq, Eq)]
 struct Known {
     captured: u32,
     group: u32,

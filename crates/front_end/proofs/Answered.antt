@@ -6,11 +6,11 @@ use Rattle.grift_base.specs.declared.refusals.FrontFault.{FrontFault}
 use Rattle.grift_base.specs.declared.refusals.FrontFault.TheVariants.{Refused, OutOfMemory}
 use Rattle.sexpr_reader.specs.Datum.{Datums}
 use Rattle.sexpr_reader.specs.Grammar.{Reads}
-use Rattle.surface_syntax.specs.Marked.{all_marked}
+use Rattle.form_table.specs.Marked.{all_marked}
 use Rattle.surface_trees.specs.Trees.{Expr}
-use Rattle.surface_syntax.specs.Programs.{AreExpr}
+use Rattle.form_table.specs.Programs.{AreExpr}
 use Rattle.cast_insert.specs.declared.insertion.Elab.{Elab}
-use Rattle.cast_insert.specs.Elaboration.{elaborate_program}
+use Rattle.cast_rules.specs.Elaboration.{elaborate_program}
 use Rattle.cast_insert.specs.Outcomes.{Outcome, outcome_of, Inserts}
 use Rattle.front_end.specs.Texts.{ReadsAs, ElaboratesTo, IsFault}
 

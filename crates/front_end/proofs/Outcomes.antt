@@ -6,17 +6,17 @@ use Rattle.sexpr_reader.specs.Grammar.{Reads}
 use Rattle.sexpr_reader.specs.Refused.{IsRefused as HasRefusedTokens}
 use Rattle.sexpr_reader.proofs.Public.{a_text_reads_or_is_refused, what_reads_is_not_refused, a_text_has_one_reading}
 use Rattle.sexpr_reader.proofs.Public.{a_text_has_one_refusal}
-use Rattle.surface_syntax.specs.Marked.{all_marked}
+use Rattle.form_table.specs.Marked.{all_marked}
 use Rattle.surface_trees.specs.Trees.{Expr}
-use Rattle.surface_syntax.specs.Written.{Top}
-use Rattle.surface_syntax.specs.Expansion.{expand_program}
-use Rattle.surface_syntax.specs.Walking.{Walked, Reads as WalkReads, Refuses}
-use Rattle.surface_syntax.specs.TopWalk.{walk_program}
-use Rattle.surface_syntax.specs.Programs.{AreExpr}
-use Rattle.surface_syntax.proofs.Public.{the_walk_reads_the_table_of_programs-each}
-use Rattle.surface_syntax.proofs.Public.{the_walk_reads_the_table_of_programs-alone}
-use Rattle.surface_syntax.proofs.Public.{the_walk_reads_the_table_of_programs-one}
-use Rattle.cast_insert.specs.Elaboration.{elaborate_program}
+use Rattle.derived_forms.specs.Written.{Top}
+use Rattle.derived_forms.specs.Expansion.{expand_program}
+use Rattle.form_table.specs.Walking.{Walked, Reads as WalkReads, Refuses}
+use Rattle.form_table.specs.TopWalk.{walk_program}
+use Rattle.form_table.specs.Programs.{AreExpr}
+use Rattle.form_table.proofs.Public.{the_walk_reads_the_table_of_programs-alone}
+use Rattle.form_table.proofs.Public.{the_walk_reads_the_table_of_programs-each}
+use Rattle.form_table.proofs.Public.{the_walk_reads_the_table_of_programs-one}
+use Rattle.cast_rules.specs.Elaboration.{elaborate_program}
 use Rattle.cast_insert.specs.Outcomes.{Outcome, Elaborates, IsRefused, outcome_of}
 use Rattle.front_end.specs.Texts.{ReadsAs, ElaboratesTo, HasRefusedForms, refusal_at, HasOutcome}
 

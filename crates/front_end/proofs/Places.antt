@@ -17,25 +17,25 @@ use Rattle.surface_trees.specs.Trees.{TypeExpr, Param, Expr, ExprNode, LambdaExp
 use Rattle.surface_trees.specs.Trees.{ExprAt, IntNode, BoolNode, UnitNode, NameNode, LambdaNode, CallNode, LetNode}
 use Rattle.surface_trees.specs.Trees.{LetrecNode, IfNode, BeginNode, AscribeNode, TupleNode, ProjNode, PrimNode}
 use Rattle.surface_trees.specs.Trees.{LambdaAt, NoExprs, ExprThen, NoLets, LetThen, NoLetrecs, LetrecThen}
-use Rattle.cast_insert.specs.Sources.{place_of, how_many}
-use Rattle.cast_insert.specs.Making.{Entry, CastFrom, PartOf, Work, Made, Makes, Refuses, Making, then_make, ◌>>=◌}
-use Rattle.cast_insert.specs.Making.{give}
-use Rattle.cast_insert.specs.Making.{refuse}
-use Rattle.cast_insert.specs.Making.{form, row_of, fresh, label_at, list_entry, test, not_too_large, are_consistent}
-use Rattle.cast_insert.specs.Making.{blend_at, Typed, typed, cast_at, cast_to, cast_if, cast_to_row, written}
-use Rattle.cast_insert.specs.Making.{written_if}
-use Rattle.cast_insert.specs.Environments.{Meaning, Environment, meaning_of, use_as, use_at, type_or_dyn}
-use Rattle.cast_insert.specs.Environments.{parameter_types, bind_names, Head, consistent_if, head_of, heads_of}
-use Rattle.cast_insert.specs.Environments.{with_names, names_of_heads}
-use Rattle.cast_insert.specs.Calls.{Given, call_by, part_by, project_by}
-use Rattle.cast_insert.specs.Operators.{Operand, As, Content, Box, Vector, AsContent, OperatorAnswer, Always}
-use Rattle.cast_insert.specs.Operators.{TheContent}
-use Rattle.cast_insert.specs.Operators.{BoxOf, VectorOf, Held, box_by, vector_by, operand_by, answer_type, operands_of}
-use Rattle.cast_insert.specs.Operators.{answer_of}
-use Rattle.cast_insert.specs.Elaboration.{Sequence, Bound, MemberBody, Operands, elaborate, elaborate_node}
-use Rattle.cast_insert.specs.Elaboration.{elaborate_lambda, elaborate_sequence, elaborate_all, elaborate_each}
-use Rattle.cast_insert.specs.Elaboration.{elaborate_operands, elaborate_bindings, elaborate_members, elaborate_member}
-use Rattle.cast_insert.specs.Elaboration.{elaborate_program, nothing_yet}
+use Rattle.cast_rules.specs.Sources.{place_of, how_many}
+use Rattle.cast_rules.specs.Making.{Entry, CastFrom, PartOf, Work, Made, Makes, Refuses, Making, then_make, ◌>>=◌}
+use Rattle.cast_rules.specs.Making.{give}
+use Rattle.cast_rules.specs.Making.{refuse}
+use Rattle.cast_rules.specs.Making.{form, row_of, fresh, label_at, list_entry, test, not_too_large, are_consistent}
+use Rattle.cast_rules.specs.Making.{blend_at, Typed, typed, cast_at, cast_to, cast_if, cast_to_row, written}
+use Rattle.cast_rules.specs.Making.{written_if}
+use Rattle.cast_rules.specs.Environments.{Meaning, Environment, meaning_of, use_as, use_at, type_or_dyn}
+use Rattle.cast_rules.specs.Environments.{parameter_types, bind_names, Head, consistent_if, head_of, heads_of}
+use Rattle.cast_rules.specs.Environments.{with_names, names_of_heads}
+use Rattle.cast_rules.specs.Calls.{Given, call_by, part_by, project_by}
+use Rattle.cast_rules.specs.Operators.{Operand, As, Content, Box, Vector, AsContent, OperatorAnswer, Always}
+use Rattle.cast_rules.specs.Operators.{TheContent}
+use Rattle.cast_rules.specs.Operators.{BoxOf, VectorOf, Held, box_by, vector_by, operand_by, answer_type, operands_of}
+use Rattle.cast_rules.specs.Operators.{answer_of}
+use Rattle.cast_rules.specs.Elaboration.{Sequence, Bound, MemberBody, Operands, elaborate, elaborate_node}
+use Rattle.cast_rules.specs.Elaboration.{elaborate_lambda, elaborate_sequence, elaborate_all, elaborate_each}
+use Rattle.cast_rules.specs.Elaboration.{elaborate_operands, elaborate_bindings, elaborate_members, elaborate_member}
+use Rattle.cast_rules.specs.Elaboration.{elaborate_program, nothing_yet}
 use Rattle.front_end.specs.Placed.{IsPlaced, ArePlaced, AreMembersPlaced, AreBindingsPlaced, IsAllowed, IsAllowedNode}
 use Rattle.front_end.specs.Placed.{IsAllowedLambda, AreAllowed, AreAllowedBindings, AreAllowedMembers, PlacesAll}
 

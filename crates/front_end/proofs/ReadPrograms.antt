@@ -15,11 +15,11 @@ use Rattle.sexpr_reader.specs.Meaning.{begins_like_number}
 use Rattle.grift_base.specs.declared.refusals.RefusalKind.TheVariants.{NumberRange, NotInProfile}
 use Rattle.sexpr_reader.specs.declared.atoms.Meaning.TheVariants.{Int, Refused, Symbol, Bool as Truth}
 use Rattle.sexpr_reader.specs.Grammar.{Forms, FormsAll}
-use Rattle.surface_syntax.specs.declared.words.Mark.{Mark}
-use Rattle.surface_syntax.specs.declared.words.Mark.TheVariants.{Reserved, Free}
-use Rattle.surface_syntax.specs.Words.{mark_of}
-use Rattle.surface_syntax.specs.Marked.{Sexpr, Sexprs, number, truth_value, word, name, list, end, ◌▹◌, marked}
-use Rattle.surface_syntax.specs.Marked.{all_marked, marked_symbol}
+use Rattle.form_table.specs.declared.words.Mark.{Mark}
+use Rattle.form_table.specs.declared.words.Mark.TheVariants.{Reserved, Free}
+use Rattle.form_table.specs.Words.{mark_of}
+use Rattle.form_table.specs.Marked.{Sexpr, Sexprs, number, truth_value, word, name, list, end, ◌▹◌, marked}
+use Rattle.form_table.specs.Marked.{all_marked, marked_symbol}
 
 -- each integer has 64 bits
 abbrev mutual

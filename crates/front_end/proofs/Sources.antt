@@ -13,37 +13,37 @@ use Rattle.sexpr_reader.specs.Token.{tokens}
 use Rattle.sexpr_reader.specs.Grammar.{Reads}
 use Rattle.surface_trees.specs.declared.names.Ident.{Ident}
 use Rattle.surface_trees.specs.declared.names.Ident.TheVariants.{Source, Fresh}
-use Rattle.surface_syntax.specs.declared.derived.LoopNames.{LoopNames}
-use Rattle.surface_syntax.specs.Words.{operand_count}
-use Rattle.surface_syntax.specs.Marked.{Sexpr, Sexprs, ◌▹◌, all_marked}
-use Rattle.surface_syntax.specs.Marked.{how_many as how_many_sexprs}
+use Rattle.derived_forms.specs.declared.loops.LoopNames.{LoopNames}
+use Rattle.form_table.specs.Words.{operand_count}
+use Rattle.form_table.specs.Marked.{Sexpr, Sexprs, ◌▹◌, all_marked}
+use Rattle.form_table.specs.Marked.{how_many as how_many_sexprs}
 use Rattle.surface_trees.specs.Trees.{TypeExpr, TypeExprs, Param, Expr, ExprAt, Exprs, NoExprs}
 use Rattle.surface_trees.specs.Trees.{ExprThen, CallNode, LambdaExpr, LetBindings, NoLets, LetThen}
-use Rattle.surface_syntax.specs.Written.{Form, Forms, LambdaWritten, LetForms, LetrecForms, Top}
-use Rattle.surface_syntax.specs.Expansion.{◌>>=◌, chain_of, one_expr, two_exprs, name_at, int_at, goes_on, next_count}
-use Rattle.surface_syntax.specs.Expansion.{loop_of, counting, gathering, repeat_of, repeat_into_of, loop_names}
-use Rattle.surface_syntax.specs.Expansion.{type_or_dyn}
-use Rattle.surface_syntax.specs.Expansion.{expand, expand_all, expand_lambda, expand_lets, expand_letrecs, expand_top}
-use Rattle.surface_syntax.specs.Expansion.{expand_tops, Part, ExprPart, ValuePart, FunctionPart, Rest}
-use Rattle.surface_syntax.specs.Expansion.{Alone, Run, closed, before, ending, joined, whole}
-use Rattle.surface_syntax.specs.Table.{IsType, is_int, is_bool, is_unit, is_dyn, is_empty, is_tuple, is_ref, is_vect}
-use Rattle.surface_syntax.specs.Table.{is_function, AreTypes, no_types, type_then, AreArrow, arrow_to, from_then}
-use Rattle.surface_syntax.specs.Table.{is_plain, is_typed, AreParams, no_params, param_then}
-use Rattle.surface_syntax.specs.Table.{IsParamList, is_param_list, IsForm, integer_row, truth_row, name_row, unit_row}
-use Rattle.surface_syntax.specs.Table.{lambda_row, let_row, letrec_row, if_row, begin_row, ascribe_row, and_row, or_row}
-use Rattle.surface_syntax.specs.Table.{repeat_row, repeat_into_row, tuple_row, proj_row, operator_row, call_row}
-use Rattle.surface_syntax.specs.Table.{AreForms, no_forms, form_then, IsLambda, typed_lambda, plain_lambda, IsBinding}
-use Rattle.surface_syntax.specs.Table.{plain_binding, typed_binding, IsMember, plain_member, typed_member, AreLets}
-use Rattle.surface_syntax.specs.Table.{no_lets, let_then, AreLetrecs, no_letrecs, letrec_then}
-use Rattle.surface_syntax.specs.TopTable.{IsTop, function_row, define_row, typed_define_row, expression_row, IsBound}
-use Rattle.surface_syntax.specs.TopTable.{function_bound, value_bound, AreTops, no_tops, top_then}
-use Rattle.surface_syntax.specs.Programs.{AreExpr}
-use Rattle.cast_insert.specs.Sources.{how_many}
-use Rattle.cast_insert.specs.Operators.{operands_of}
-use Rattle.cast_insert.specs.Programs.{HasTypeWidths, HaveTypeWidths, how_many_types, depth_of, depth_of_all}
-use Rattle.cast_insert.specs.Programs.{IsWrittenType, MayBeWritten, AreSourceParams, IsSource, IsSourceLambda}
-use Rattle.cast_insert.specs.Programs.{AreSources, IsSourceBody, AreSourceBindings, AreSourceMembers}
-use Rattle.surface_syntax.proofs.Public.{brackets, brackets_of, brackets_of_are}
+use Rattle.derived_forms.specs.Written.{Form, Forms, LambdaWritten, LetForms, LetrecForms, Top}
+use Rattle.derived_forms.specs.Expansion.{◌>>=◌, chain_of, one_expr, two_exprs, name_at, int_at, goes_on, next_count}
+use Rattle.derived_forms.specs.Expansion.{loop_of, counting, gathering, repeat_of, repeat_into_of, loop_names}
+use Rattle.derived_forms.specs.Expansion.{type_or_dyn}
+use Rattle.derived_forms.specs.Expansion.{expand, expand_all, expand_lambda, expand_lets, expand_letrecs, expand_top}
+use Rattle.derived_forms.specs.Expansion.{expand_tops, Part, ExprPart, ValuePart, FunctionPart, Rest}
+use Rattle.derived_forms.specs.Expansion.{Alone, Run, closed, before, ending, joined, whole}
+use Rattle.form_table.specs.Table.{IsType, is_int, is_bool, is_unit, is_dyn, is_empty, is_tuple, is_ref, is_vect}
+use Rattle.form_table.specs.Table.{is_function, AreTypes, no_types, type_then, AreArrow, arrow_to, from_then}
+use Rattle.form_table.specs.Table.{is_plain, is_typed, AreParams, no_params, param_then}
+use Rattle.form_table.specs.Table.{IsParamList, is_param_list, IsForm, integer_row, truth_row, name_row, unit_row}
+use Rattle.form_table.specs.Table.{lambda_row, let_row, letrec_row, if_row, begin_row, ascribe_row, and_row, or_row}
+use Rattle.form_table.specs.Table.{repeat_row, repeat_into_row, tuple_row, proj_row, operator_row, call_row}
+use Rattle.form_table.specs.Table.{AreForms, no_forms, form_then, IsLambda, typed_lambda, plain_lambda, IsBinding}
+use Rattle.form_table.specs.Table.{plain_binding, typed_binding, IsMember, plain_member, typed_member, AreLets}
+use Rattle.form_table.specs.Table.{no_lets, let_then, AreLetrecs, no_letrecs, letrec_then}
+use Rattle.form_table.specs.TopTable.{IsTop, function_row, define_row, typed_define_row, expression_row, IsBound}
+use Rattle.form_table.specs.TopTable.{function_bound, value_bound, AreTops, no_tops, top_then}
+use Rattle.form_table.specs.Programs.{AreExpr}
+use Rattle.cast_rules.specs.Sources.{how_many}
+use Rattle.cast_rules.specs.Operators.{operands_of}
+use Rattle.cast_rules.specs.Programs.{HasTypeWidths, HaveTypeWidths, how_many_types, depth_of, depth_of_all}
+use Rattle.cast_rules.specs.Programs.{IsWrittenType, MayBeWritten, AreSourceParams, IsSource, IsSourceLambda}
+use Rattle.cast_rules.specs.Programs.{AreSources, IsSourceBody, AreSourceBindings, AreSourceMembers}
+use Rattle.form_table.proofs.Public.{brackets, brackets_of, brackets_of_are}
 use Rattle.front_end.proofs.ReadPrograms.{NumbersFit, AllFit, all_fit}
 
 -- ---- types

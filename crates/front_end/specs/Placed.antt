@@ -8,8 +8,8 @@ use Rattle.surface_trees.specs.Trees.{ExprThen, NoLets, LetThen, NoLetrecs, Letr
 use Rattle.core_calc.specs.Terms.{Term, Terms, Members, Bindings, Lambda, Group, Let, Call, Enter, If, Seq, Cast}
 use Rattle.core_calc.specs.Terms.{Proj, ProjDyn, Tuple, Prim, NoTerms, TermThen, NoMembers, MemberThen, NoBindings}
 use Rattle.core_calc.specs.Terms.{BindingThen}
-use Rattle.cast_insert.specs.Making.{Entry, CastFrom, PartOf, Makes, Typed, Work}
-use Rattle.cast_insert.specs.Elaboration.{elaborate_program}
+use Rattle.cast_rules.specs.Making.{Entry, CastFrom, PartOf, Makes, Typed, Work}
+use Rattle.cast_rules.specs.Elaboration.{elaborate_program}
 
 -- the list has an entry of this cast, and of this part
 abbrev pub HasCast : List Entry → ℕ → ℕ → ℕ → Type 0

@@ -8,14 +8,14 @@ use Rattle.grift_base.specs.declared.refusals.FrontFault.TheVariants.{Refused, O
 use Rattle.sexpr_reader.specs.Datum.{Datums}
 use Rattle.sexpr_reader.specs.Grammar.{Reads}
 use Rattle.sexpr_reader.specs.Refused.{IsRefused as HasRefusedTokens}
-use Rattle.surface_syntax.specs.Marked.{all_marked, how_many}
+use Rattle.form_table.specs.Marked.{all_marked, how_many}
 use Rattle.surface_trees.specs.Trees.{Expr}
-use Rattle.surface_syntax.specs.Walking.{Refuses}
-use Rattle.surface_syntax.specs.TopWalk.{walk_program}
-use Rattle.surface_syntax.specs.Programs.{AreExpr, AreNoProgram}
-use Rattle.cast_insert.specs.Elaboration.{elaborate_program}
+use Rattle.form_table.specs.Walking.{Refuses}
+use Rattle.form_table.specs.TopWalk.{walk_program}
+use Rattle.form_table.specs.Programs.{AreExpr, AreNoProgram}
+use Rattle.cast_rules.specs.Elaboration.{elaborate_program}
 use Rattle.cast_insert.specs.Outcomes.{Outcome, Elaborates, IsRefused, outcome_of}
-use Rattle.cast_insert.specs.Programs.{IsSource}
+use Rattle.cast_rules.specs.Programs.{IsSource}
 
 -- the text reads as the forms of a program, and this is its expression
 pub record ReadsAs (text : List ℕ) (program : Expr) : Type 0 where

@@ -1,13 +1,12 @@
 // The program: it compiles a file and runs it.
 #![tactic(auto)]
 
-mod adapters;
-
-use crate::adapters::{ErrSink, FileShelf, FileSink, OutSink};
 use grift_base::lists::OutOfMemory;
 use grift_base::sinks::{DropSink, Sink};
 use grift_cli::commands::image_name;
 use grift_cli::top::{grift, put_want_of_memory};
+use host_files::shelf::FileShelf;
+use host_files::sinks::{ErrSink, FileSink, OutSink};
 use std::env;
 use std::io::ErrorKind;
 use std::process::ExitCode;

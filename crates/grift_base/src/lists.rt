@@ -24,7 +24,7 @@ impl<T: Drop> From<AllocFailed<T>> for OutOfMemory {
 }
 
 /// A list in a vector.
-#[derive(Drop, Debug)]
+#[derive(Drop)]
 pub struct Items<T> {
     items: Vec<T>,
 }

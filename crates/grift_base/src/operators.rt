@@ -1,7 +1,7 @@
 // The primitive operators of the language.
 
 /// A primitive operator.
-#[derive(Clone, Copy, PartialEq, Eq, Hash, Debug)]
+#[derive(Clone, Copy, PartialEq, Eq)]
 pub enum PrimOp {
     Add,
     Sub,

@@ -11,11 +11,11 @@ pub struct Pos {
 }
 
 /// A place in a table of labels, from 0.
-#[derive(Clone, Copy, PartialEq, Eq, Hash, Debug)]
+#[derive(Clone, Copy, PartialEq, Eq, Hash)]
 pub struct LabelId(pub u32);
 
 /// A place in a table of types, from 0.
-#[derive(Clone, Copy, PartialEq, Eq, Hash, Debug)]
+#[derive(Clone, Copy, PartialEq, Eq, Hash)]
 pub struct TypeId(pub u32);
 
 /// The most entries of a table whose places are numbers of 32 bits.

@@ -7,7 +7,7 @@ use crate::lists;
 use crate::places::Pos;
 
 /// Why a source is refused.
-#[derive(Clone, Copy, PartialEq, Eq, Hash, Debug)]
+#[derive(Clone, Copy, PartialEq, Eq, Debug)]
 pub enum RefusalKind {
     /// A byte that begins no token.
     BadByte,
@@ -100,7 +100,7 @@ impl RefusalKind {
 }
 
 /// A refusal of a source, with the place of what is refused.
-#[derive(Clone, Copy, PartialEq, Eq, Hash, Debug)]
+#[derive(Clone, Copy, PartialEq, Eq, Debug)]
 pub struct Refusal {
     pub kind: RefusalKind,
     pub pos: Pos,

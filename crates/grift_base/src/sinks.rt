@@ -8,7 +8,7 @@ use std::alloc::Global;
 use std::marker::Model;
 
 /// Why bytes weren't taken.
-#[derive(Clone, Copy, PartialEq, Eq, Debug)]
+#[derive(Clone, Copy, PartialEq, Eq)]
 pub enum SinkFault {
     /// The outside failed.
     Failed,
@@ -109,7 +109,7 @@ impl Sink for MemSink {
 }
 
 /// A sink that takes everything and keeps nothing.
-#[derive(Clone, Copy, PartialEq, Eq, Default, Debug)]
+#[derive(Clone, Copy, PartialEq, Eq, Default)]
 pub struct DropSink;
 
 impl DropSink {

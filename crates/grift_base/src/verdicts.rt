@@ -14,7 +14,7 @@ use itoa::Buffer;
 use std::alloc::Global;
 
 /// An operation that has no answer.
-#[derive(Clone, Copy, PartialEq, Eq, Hash, Debug)]
+#[derive(Clone, Copy, PartialEq, Eq)]
 pub enum Trap {
     /// A quotient or a remainder by zero.
     ZeroDivisor,
@@ -54,7 +54,7 @@ impl Trap {
 }
 
 /// What an answer is, looking through every wrapper.
-#[derive(Clone, Copy, PartialEq, Eq, Hash, Debug)]
+#[derive(Clone, Copy, PartialEq, Eq)]
 pub enum AnswerKind {
     /// An integer.
     Int,
@@ -83,14 +83,14 @@ impl AnswerKind {
 }
 
 /// An answer: its word is the integer, 0 or 1 for a truth value, and else 0.
-#[derive(Clone, Copy, PartialEq, Eq, Hash, Debug)]
+#[derive(Clone, Copy, PartialEq, Eq)]
 pub struct Answer {
     pub kind: AnswerKind,
     pub word: i64,
 }
 
 /// How a program ends.
-#[derive(Clone, Copy, PartialEq, Eq, Hash, Debug)]
+#[derive(Clone, Copy, PartialEq, Eq)]
 pub enum Verdict {
     /// It has come to a value.
     Answer(Answer),

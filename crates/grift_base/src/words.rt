@@ -30,7 +30,7 @@ pub type WordList = Items<u64>;
 
 /// The words that stand in memory before the code, and where the objects among them are: the address of each type and
 /// of each coercion, and the word of each cast.
-#[derive(Drop, Debug)]
+#[derive(Drop)]
 pub struct Statics {
     pub words: WordList,
     pub type_at: WordList,

@@ -57,7 +57,7 @@ impl Model for World {
 }
 
 /// What an environment call comes to.
-#[derive(Clone, Copy, PartialEq, Eq, Debug)]
+#[derive(Clone, Copy, PartialEq, Eq)]
 pub enum EnvEffect {
     /// The program goes on, with these two words as its first two argument registers.
     Next(u64, u64),

@@ -12,10 +12,10 @@ use Rattle.rv_machine.specs.Start.{IsRegionSize, IsStackSize}
 use Rattle.core_calc.specs.Terms.{Term}
 use Rattle.core_calc.specs.Typing.{ProgramTermHasType}
 use Rattle.core_calc.specs.Views.{term_of}
-use Rattle.cast_insert.specs.Making.{Entry}
+use Rattle.cast_rules.specs.Making.{Entry}
 use Rattle.cast_insert.specs.Outcomes.{Outcome, Elaborates, IsRefused}
-use Rattle.cast_insert.specs.Views.{entries_of, entry_of}
-use Rattle.cast_insert.specs.declared.casts.CastEntry.{CastEntry}
+use Rattle.insert_steps.specs.Views.{entries_of, entry_of}
+use Rattle.insert_steps.specs.declared.casts.CastEntry.{CastEntry}
 use Rattle.front_end.specs.Texts.{HasOutcome, IsFault}
 use Rattle.front_end.proofs.Public.{a_text_has_one_outcome-one}
 use Rattle.compile_driver.specs.Bounds.{KeepsAccount}

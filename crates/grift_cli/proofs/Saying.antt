@@ -27,9 +27,9 @@ use Rattle.rv_machine.specs.Mach.{mach, moment_of}
 use Rattle.rv_machine.proofs.Public.{run_is_its_turns-states}
 use Rattle.front_end.specs.Texts.{HasOutcome, IsFault}
 use Rattle.core_calc.specs.Views.{term_of}
-use Rattle.cast_insert.specs.Making.{Entry}
+use Rattle.cast_rules.specs.Making.{Entry}
 use Rattle.cast_insert.specs.Outcomes.{Elaborates}
-use Rattle.cast_insert.specs.Views.{entries_of}
+use Rattle.insert_steps.specs.Views.{entries_of}
 use Rattle.cast_insert.specs.declared.insertion.Elab.{Elab}
 use Rattle.compile_driver.specs.Bounds.{KeepsAccount}
 use Rattle.compile_driver.specs.Compiling.{FollowsProgram, HasProgram, IsTold, program_of, tallest_in}

@@ -2,7 +2,7 @@
 use Rattle.std.specs.Prelude.{ℕ, List}
 use Rattle.grift_base.specs.Sink.{SinkSeen}
 use Rattle.grift_base.specs.Types.{TypeRows}
-use Rattle.cast_insert.specs.Views.{entries_of}
+use Rattle.insert_steps.specs.Views.{entries_of}
 use Rattle.cast_insert.specs.declared.insertion.Elab.{Elab}
 use Rattle.blame_audit.specs.Claims.{program_over}
 use Rattle.listing.specs.CastLines.{cast_listing}

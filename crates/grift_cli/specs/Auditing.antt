@@ -7,7 +7,7 @@ use Rattle.grift_base.specs.declared.verdicts.Verdict.TheVariants.{Blame}
 use Rattle.rv_machine.specs.Start.{IsRegionSize, IsStackSize}
 use Rattle.rv_machine.specs.Mach.{mach}
 use Rattle.core_calc.specs.Calculus.{Program}
-use Rattle.cast_insert.specs.Making.{Entry}
+use Rattle.cast_rules.specs.Making.{Entry}
 use Rattle.cast_insert.specs.Outcomes.{Elaborates}
 use Rattle.front_end.specs.Texts.{HasOutcome}
 use Rattle.compile_driver.specs.Compiling.{FollowsProgram}

@@ -6,7 +6,7 @@ use Rattle.grift_base.specs.Types.{TypeRows}
 use Rattle.grift_base.specs.declared.places.Pos.{Pos}
 use Rattle.type_graph.specs.Texts.{type_text}
 use Rattle.core_calc.specs.Terms.{Term}
-use Rattle.cast_insert.specs.Making.{Entry}
+use Rattle.cast_rules.specs.Making.{Entry}
 use Rattle.cast_insert.specs.Outcomes.{Elaborates}
 use Rattle.front_end.specs.Texts.{HasOutcome}
 use Rattle.grift_cli.specs.Commands.{Check}

@@ -2,7 +2,7 @@
 
 ghost use Rattle.std.specs.Prelude.{◌<◌, length};
 ghost use Rattle.grift_base.specs.Sink.{sink_seen};
-ghost use Rattle.cast_insert.specs.Views.{entries_of};
+ghost use Rattle.insert_steps.specs.Views.{entries_of};
 ghost use Rattle.blame_audit.specs.Claims.{IsElaborated};
 ghost use Rattle.listing.specs.CastLines.{EntriesFit};
 ghost use Rattle.grift_cli.specs.Aspects.{PutsAspect};

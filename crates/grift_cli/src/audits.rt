@@ -1,7 +1,7 @@
 // What `audit` puts.
 
 ghost use Rattle.grift_base.specs.Sink.{sink_seen};
-ghost use Rattle.cast_insert.specs.Views.{entries_of};
+ghost use Rattle.insert_steps.specs.Views.{entries_of};
 ghost use Rattle.blame_audit.specs.Claims.{IsElaborated, program_over};
 ghost use Rattle.grift_cli.specs.Auditing.{PutsAudit};
 

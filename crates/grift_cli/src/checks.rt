@@ -2,7 +2,7 @@
 
 ghost use Rattle.std.specs.Prelude.{◌≡◌, ◌<◌, IfOk, length};
 ghost use Rattle.grift_base.specs.Sink.{sink_seen};
-ghost use Rattle.cast_insert.specs.Views.{entries_of};
+ghost use Rattle.insert_steps.specs.Views.{entries_of};
 ghost use Rattle.grift_cli.specs.Checking.{checked_text, PutsLines};
 
 use crate::reports::Report;

@@ -27,7 +27,7 @@ const MOST_MODEL_STEPS: u64 = 10_000_000;
 const MOST_NUMBER: u64 = 200;
 
 /// A command of the program.
-#[derive(Clone, Copy, PartialEq, Eq, Debug)]
+#[derive(Clone, Copy, PartialEq, Eq)]
 pub enum Command<'a> {
     /// A file that is compiled and run, the file of its input, if it gets one, whether its storage is told, and the
     /// name of its image, if it gets one.
@@ -81,7 +81,7 @@ pub enum Command<'a> {
 }
 
 /// The limits of a run: bytes of the region, bytes of the stack, and instructions.
-#[derive(Clone, Copy, PartialEq, Eq, Debug)]
+#[derive(Clone, Copy, PartialEq, Eq)]
 pub struct Limits {
     pub region: u64,
     pub stack: u64,

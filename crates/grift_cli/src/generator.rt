@@ -2,7 +2,7 @@
 
 ghost use Rattle.std.specs.Prelude.{◌≡◌, ◌++◌, [], IfOk, IfSome, OnOk, length};
 ghost use Rattle.grift_base.specs.Sink.{sink_seen};
-ghost use Rattle.cast_insert.specs.Views.{entries_of};
+ghost use Rattle.insert_steps.specs.Views.{entries_of};
 ghost use Rattle.grift_cli.specs.Commands.{IsFamilyNumber, default_limits};
 ghost use Rattle.grift_cli.specs.Generating.{Generates, PutsNumbers, numbers_text};
 ghost use Rattle.grift_cli.specs.Running.{RunsWell, TellsRun};

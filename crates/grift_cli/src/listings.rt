@@ -2,7 +2,7 @@
 
 ghost use Rattle.std.specs.Prelude.{◌≡◌, IfOk};
 ghost use Rattle.grift_base.specs.Sink.{sink_seen};
-ghost use Rattle.cast_insert.specs.Views.{entries_of};
+ghost use Rattle.insert_steps.specs.Views.{entries_of};
 ghost use Rattle.listing.specs.CastLines.{EntriesFit, cast_listing};
 ghost use Rattle.grift_cli.specs.Listing.{PutsShown, seen_by};
 
@@ -16,7 +16,7 @@ use listing::code::code_text;
 use std::alloc::Global;
 
 /// What is put of an image.
-#[derive(Clone, Copy, PartialEq, Eq, Debug)]
+#[derive(Clone, Copy, PartialEq, Eq)]
 pub enum View {
     /// Its code, a line for each instruction.
     Listing,

@@ -21,7 +21,7 @@ use object_layout::walks::SpaceReport;
 use std::alloc::Global;
 
 /// Why a file holds no image.
-#[derive(Clone, Copy, PartialEq, Eq, Debug)]
+#[derive(Clone, Copy, PartialEq, Eq)]
 pub enum BadImage {
     /// It doesn't begin as an image does.
     Magic,
@@ -33,14 +33,14 @@ pub enum BadImage {
 
 /// What is told of the storage of a run: the report of its region as the machine stopped, and the greatest height of
 /// the coercions of the program's casts.
-#[derive(Clone, Copy, PartialEq, Eq, Debug)]
+#[derive(Clone, Copy, PartialEq, Eq)]
 pub struct Space {
     pub report: SpaceReport,
     pub tallest: u32,
 }
 
 /// What a call of the program reports.
-#[derive(Clone, Copy, PartialEq, Eq, Debug)]
+#[derive(Clone, Copy, PartialEq, Eq)]
 pub enum Report {
     /// The run of the image has this verdict.
     HasVerdict(Verdict),

@@ -5,9 +5,9 @@ use Rattle.std.specs.Prelude.{slice_get, codes, max, OnOk, Result, Ok, Err}
 use Rattle.std.proofs.lemmas.List.{map_more}
 use Rattle.grift_base.specs.Types.{TypeRows}
 use Rattle.grift_base.specs.declared.places.Pos.{Pos}
-use Rattle.cast_insert.specs.Making.{Entry, CastFrom, PartOf}
-use Rattle.cast_insert.specs.Views.{entries_of, entry_of}
-use Rattle.cast_insert.specs.declared.casts.CastEntry.{CastEntry}
+use Rattle.cast_rules.specs.Making.{Entry, CastFrom, PartOf}
+use Rattle.insert_steps.specs.Views.{entries_of, entry_of}
+use Rattle.insert_steps.specs.declared.casts.CastEntry.{CastEntry}
 use Rattle.type_graph.specs.Trees.{height}
 use Rattle.coercion_norm.specs.Coercions.{Coercion, rows_of}
 use Rattle.coercion_norm.specs.CoercionTables.{cast_of, composition_of}

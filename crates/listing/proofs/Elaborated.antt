@@ -4,11 +4,11 @@ use Rattle.grift_base.specs.Types.{TypeRows}
 use Rattle.grift_base.specs.declared.places.Pos.{Pos}
 use Rattle.core_calc.specs.Terms.{Term}
 use Rattle.surface_trees.specs.Trees.{Expr}
-use Rattle.cast_insert.specs.Elaboration.{elaborate_program}
-use Rattle.cast_insert.specs.Making.{Entry, Made, Makes, Refuses, Typed}
+use Rattle.cast_rules.specs.Elaboration.{elaborate_program}
+use Rattle.cast_rules.specs.Making.{Entry, Made, Makes, Refuses, Typed}
 use Rattle.cast_insert.specs.Outcomes.{Outcome, Elaborates, IsRefused, outcome_of}
-use Rattle.cast_insert.specs.Programs.{IsSource}
-use Rattle.cast_insert.proofs.Public.{entries_elaborated}
+use Rattle.cast_rules.specs.Programs.{IsSource}
+use Rattle.cast_rules.proofs.Public.{entries_elaborated}
 use Rattle.listing.specs.CastLines.{EntriesFit}
 
 -- what is known of an outcome that elaborates

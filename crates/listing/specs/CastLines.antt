@@ -4,8 +4,8 @@ use Rattle.std.specs.Fmt.{signed_decimal}
 use Rattle.grift_base.specs.Types.{TypeRows}
 use Rattle.grift_base.specs.declared.places.Pos.{Pos}
 use Rattle.type_graph.specs.Texts.{type_text}
-use Rattle.cast_insert.specs.Claims.{EntryFits}
-use Rattle.cast_insert.specs.Making.{Entry, CastFrom, PartOf}
+use Rattle.cast_rules.specs.Claims.{EntryFits}
+use Rattle.cast_rules.specs.Making.{Entry, CastFrom, PartOf}
 use Rattle.coercion_norm.specs.Coercions.{Coercion}
 use Rattle.coercion_norm.specs.CoercionTables.{cast_of, composition_of}
 use Rattle.coercion_norm.specs.Texts.{coercion_text, label_text}

@@ -2,9 +2,9 @@
 
 ghost use Rattle.std.specs.Prelude.{◌≡◌, ◌<◌, ◌++◌, ℕ, IfOk, MatchOption, OnOk, codes, length};
 ghost use Rattle.std.specs.Fmt.{signed_decimal};
-ghost use Rattle.cast_insert.specs.Claims.{EntryFits};
-ghost use Rattle.cast_insert.specs.Making.{CastFrom};
-ghost use Rattle.cast_insert.specs.Views.{entries_of, entry_of};
+ghost use Rattle.cast_rules.specs.Claims.{EntryFits};
+ghost use Rattle.cast_rules.specs.Making.{CastFrom};
+ghost use Rattle.insert_steps.specs.Views.{entries_of, entry_of};
 ghost use Rattle.coercion_norm.specs.CoercionTables.{FitsTypes};
 ghost use Rattle.coercion_norm.specs.Nodes.{tree_of};
 ghost use Rattle.coercion_norm.specs.Texts.{HasLabels, label_text};
@@ -12,7 +12,6 @@ ghost use Rattle.listing.specs.CastLines.{CastFits, EntriesFit, IsNoCast, IsThis
 ghost use Rattle.listing.specs.CastLines.{inner_entry, merged_if, shown, types_part};
 
 use crate::rooms::Rooms;
-use cast_insert::casts::{CastEntry, CastList};
 use cast_insert::insertion::Elab;
 use coercion_compose::compositions::compose;
 use coercion_norm::casts::{Cast, coerce};
@@ -21,6 +20,7 @@ use coercion_norm::tables::CoercionTable;
 use coercion_norm::texts::show;
 use grift_base::lists::{OutOfMemory, Text};
 use grift_base::places::{LabelId, LabelTable};
+use insert_steps::casts::{CastEntry, CastList};
 use itoa::Buffer;
 use std::alloc::Global;
 use type_graph::tables::TypeTable;

@@ -6,7 +6,7 @@ use grift_base::lists::Items;
 use machine_words::conditions::Cond;
 
 /// An operation on two words, as the instructions of RV64I have it. A shift takes the low six bits of its second word.
-#[derive(Clone, Copy, PartialEq, Eq, Debug)]
+#[derive(Clone, Copy, PartialEq, Eq)]
 pub enum WordOp {
     /// The sum, which wraps.
     Add,
@@ -31,7 +31,7 @@ pub enum WordOp {
 }
 
 /// What is read.
-#[derive(Clone, Copy, PartialEq, Eq, Debug)]
+#[derive(Clone, Copy, PartialEq, Eq)]
 pub enum LowSource {
     /// A word of the procedure, by its number from 0.
     Word(u32),

@@ -30,7 +30,7 @@ use std::alloc::Global;
 use type_graph::tables::TypeTable;
 
 /// Casts by coercions: a value has one wrapper at most.
-#[derive(Clone, Copy, Debug)]
+#[derive(Clone, Copy)]
 pub struct Merged;
 
 // Casts and what they call; apply, read, write and fill; products and quotients.

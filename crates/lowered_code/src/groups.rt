@@ -15,7 +15,7 @@ use object_layout::kinds::Kind;
 
 /// A group: the local name of its first function, the number of that one's procedure, and how many functions stand
 /// behind the first.
-#[derive(Clone, Copy, PartialEq, Eq, Debug)]
+#[derive(Clone, Copy, PartialEq, Eq)]
 pub struct Group {
     pub slot: u32,
     pub first: u32,

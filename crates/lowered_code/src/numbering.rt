@@ -7,7 +7,7 @@ use grift_base::lists::OutOfMemory;
 
 /// What is known of a procedure where its body becomes code: how many parameters it has, how many names it has
 /// captured, and its place in its group.
-#[derive(Clone, Copy, PartialEq, Eq, Debug)]
+#[derive(Clone, Copy, PartialEq, Eq)]
 pub struct Shape {
     pub params: u32,
     pub captured: u32,

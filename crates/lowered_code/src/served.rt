@@ -4,7 +4,7 @@ use grift_base::lists::Items;
 use grift_base::words::WordList;
 
 /// A type whose words stand behind a tag in Dyn; of integers only those of 61 bits do.
-#[derive(Clone, Copy, PartialEq, Eq, Debug)]
+#[derive(Clone, Copy, PartialEq, Eq)]
 pub enum Tag {
     Int,
     Bool,
@@ -12,7 +12,7 @@ pub enum Tag {
 }
 
 /// How a cast is made.
-#[derive(Clone, Copy, PartialEq, Eq, Debug)]
+#[derive(Clone, Copy, PartialEq, Eq)]
 pub enum CastWay {
     /// By the procedure for casts.
     Called,
@@ -26,7 +26,7 @@ pub enum CastWay {
 pub type CastWays = Items<CastWay>;
 
 /// The numbers of the procedures that serve, the word that is handed on for each cast, and how each cast is made.
-#[derive(Drop, Debug)]
+#[derive(Drop)]
 pub struct Served {
     pub cast: u32,
     pub project: u32,

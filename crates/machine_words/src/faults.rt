@@ -1,7 +1,7 @@
 // How the machine goes wrong.
 
 /// How a run goes wrong, each with the address of the instruction that stopped.
-#[derive(Clone, Copy, PartialEq, Eq, Debug)]
+#[derive(Clone, Copy, PartialEq, Eq)]
 pub enum MachineFault {
     /// The word is no instruction, or the environment has no such call.
     Undefined(u64),

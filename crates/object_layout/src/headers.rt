@@ -8,7 +8,7 @@ use crate::kinds::Kind;
 use crate::words::{COUNT_SHIFT, HEIGHT_SHIFT};
 
 /// What the first word of an object says: the number of its kind, its height, and the number of words after it.
-#[derive(Clone, Copy, PartialEq, Eq, Debug)]
+#[derive(Clone, Copy, PartialEq, Eq)]
 pub struct Header {
     pub kind: u8,
     pub height: u16,

@@ -5,7 +5,7 @@ ghost use Rattle.object_layout.specs.Kinds.{kind_number, kind_of, is_type, is_mi
 ghost use Rattle.object_layout.specs.Kinds.{allows_count};
 
 /// What an object is. The words after its header follow each name.
-#[derive(Clone, Copy, PartialEq, Eq, Debug)]
+#[derive(Clone, Copy, PartialEq, Eq)]
 pub enum Kind {
     /// A code address, and captured words.
     Closure,
@@ -52,7 +52,7 @@ pub enum Kind {
 }
 
 /// What a word after a header has to be.
-#[derive(Clone, Copy, PartialEq, Eq, Debug)]
+#[derive(Clone, Copy, PartialEq, Eq)]
 pub enum Wanted {
     /// Any word.
     Anything,

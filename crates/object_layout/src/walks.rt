@@ -12,7 +12,7 @@ use crate::wholes::{Area, header_at, whole_object};
 use grift_base::words::Words;
 
 /// What fills a range of storage.
-#[derive(Clone, Copy, PartialEq, Eq, Debug)]
+#[derive(Clone, Copy, PartialEq, Eq)]
 pub struct SpaceReport {
     /// The bytes of the range.
     pub bytes: u64,

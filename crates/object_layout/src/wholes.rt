@@ -13,7 +13,7 @@ use crate::kinds::{Kind, Wanted};
 use grift_base::words::Words;
 
 /// Where objects stand.
-#[derive(Clone, Copy, PartialEq, Eq, Debug)]
+#[derive(Clone, Copy, PartialEq, Eq)]
 pub enum Area {
     /// The region: no type is a whole object there.
     Region,

@@ -17,12 +17,12 @@ use Rattle.rv_select.specs.declared.code.VirtualItem.{VirtualItem}
 use Rattle.rv_select.specs.Holding.{Among, writes, place_of, may_hold, SparedBy}
 use Rattle.reg_assign.specs.declared.assign.Room.{Room}
 use Rattle.reg_assign.specs.declared.walks.Walk.{Walk}
-use Rattle.reg_assign.specs.Places.{place_in}
-use Rattle.reg_assign.specs.Check.{HasHolding, with_place, at_turn}
+use Rattle.placed_code.specs.Places.{place_in}
+use Rattle.placed_code.specs.Check.{HasHolding, with_place, at_turn}
 use Rattle.reg_assign.specs.Numbers.{register_at}
 use Rattle.reg_assign.specs.Flow.{Behind, IsListed, IsRead, IsWritten}
 use Rattle.reg_assign.specs.Room.{Tells, IsRoom, IsBusy, IsTaken, IsLeft, IsChosen, IsBest, Known}
-use Rattle.reg_assign.proofs.Names.{equal_of}
+use Rattle.placed_code.proofs.Public.{equal_of, turn_holds}
 use Rattle.reg_assign.proofs.Walking.{at_index}
 use Rattle.reg_assign.proofs.Masks.{zero_or_one, held_range}
 use Rattle.reg_assign.proofs.Kept.{is_member, member_is}
@@ -32,7 +32,6 @@ use Rattle.reg_assign.specs.Walks.{IsIdle}
 use Rattle.reg_assign.proofs.Fine.{steps_more}
 use Rattle.reg_assign.specs.Walks.{IsWalk, Steps}
 use Rattle.std.proofs.lemmas.Nat.Bits.{bit_at_or, bit_at-zero}
-use Rattle.reg_assign.proofs.Greedy.{turn_holds}
 use Rattle.reg_assign.proofs.Rooms.{spares_v, free_at_writes, can_have, known_by}
 
 pub register_v : (v : ℕ) → register_at (33 + v) ≡ Virtual v

@@ -10,13 +10,13 @@ use Rattle.rv_select.specs.declared.code.Place.TheVariants.{InReg, Slot}
 use Rattle.rv_select.specs.declared.code.VirtualItem.{VirtualItem}
 use Rattle.rv_select.specs.Holding.{may_hold}
 use Rattle.reg_assign.specs.declared.walks.Walk.{Walk}
-use Rattle.reg_assign.specs.Places.{place_in}
-use Rattle.reg_assign.specs.Check.{AreAllowed}
+use Rattle.placed_code.specs.Places.{place_in}
+use Rattle.placed_code.specs.Check.{AreAllowed}
 use Rattle.reg_assign.specs.Numbers.{register_at}
 use Rattle.reg_assign.specs.Flow.{Behind, IsVirtual, IsKept, IsListed, IsRead}
 use Rattle.reg_assign.specs.Walks.{IsClosed, Steps}
 use Rattle.reg_assign.specs.Fits.{IsFine}
-use Rattle.reg_assign.proofs.Names.{equal_of}
+use Rattle.placed_code.proofs.Public.{equal_of}
 use Rattle.reg_assign.proofs.Walking.{reach_found, at_index}
 use Rattle.reg_assign.proofs.Kept.{kept_by_walk, kept_unread, behind_kept, spared_where_kept, none_where_kept}
 

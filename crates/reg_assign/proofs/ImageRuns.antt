@@ -36,23 +36,18 @@ use Rattle.rv_select.specs.Select.{select_items, registers_of}
 use Rattle.rv_select.specs.Selected.{SameRegion, Begins, Simulates, IsCodeOf}
 use Rattle.rv_select.specs.Stacks.{stacked_machine, frames_size, low_in_stack}
 use Rattle.rv_select.proofs.Public.{closed_entry, stack_held}
-use Rattle.reg_assign.specs.Slotted.{Starts, setting_in, room_in, start_in, IsSeenAs, EntersBeyond}
-use Rattle.reg_assign.specs.Slotted.{EndsToo}
-use Rattle.reg_assign.specs.Places.{place_in}
-use Rattle.reg_assign.specs.Sized.{sized_machine}
-use Rattle.reg_assign.specs.Applied.{applied, slots_of, frames_by, last_frame_by, IsApplied}
+use Rattle.placed_code.specs.Slotted.{Starts, setting_in, room_in, start_in, IsSeenAs, EntersBeyond}
+use Rattle.placed_code.specs.Slotted.{EndsToo}
+use Rattle.placed_code.specs.Places.{place_in}
+use Rattle.placed_code.specs.Sized.{sized_machine}
+use Rattle.placed_code.specs.Applied.{applied, slots_of, frames_by, last_frame_by, IsApplied}
 use Rattle.reg_assign.specs.Room.{IsBest}
 use Rattle.reg_assign.specs.Images.{words_code, words_setting, HasRegionOf, FollowsWords, RunsIn, ExceedsStack}
 use Rattle.reg_assign.specs.Images.{IsImageOfWords}
-use Rattle.reg_assign.proofs.ImageBytes.{parts_small, memory_bytes}
+use Rattle.placed_code.proofs.Public.{few, frames_no_larger, lacks_with_all, memory_bytes, never_lacks_stack, of_stack}
+use Rattle.placed_code.proofs.Public.{of_stack_reads, parts_small, procedure_words, same_but_ending, stop_read, stopped}
+use Rattle.placed_code.proofs.Public.{words_never_wrong}
 use Rattle.reg_assign.proofs.ProcAddresses.{In, in_procedures, below_numbers, have_addresses}
-use Rattle.reg_assign.proofs.ProcWords.{procedure_words}
-use Rattle.reg_assign.proofs.Readings.{same_but_ending, words_never_wrong, of_stack, of_stack_reads, stopped}
-use Rattle.reg_assign.proofs.Readings.{stop_read}
-use Rattle.reg_assign.proofs.SpareStack.{never_lacks_stack}
-use Rattle.reg_assign.proofs.FrameSizes.{frames_no_larger}
-use Rattle.reg_assign.proofs.Dense.{few}
-use Rattle.reg_assign.proofs.LacksStack.{lacks_with_all}
 
 -- what a real state shows below the last two passes
 below_code : (bound : ℕ) (s : State) (v : Shown)

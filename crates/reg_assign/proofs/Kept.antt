@@ -16,12 +16,12 @@ use Rattle.rv_select.specs.declared.code.VirtualItem.{VirtualItem}
 use Rattle.rv_select.specs.declared.code.VirtualItem.TheVariants.{Procedure, Call, CallAt}
 use Rattle.rv_select.specs.Holding.{Among, reads, writes, place_of, NoneAt, SparedBy, SparedByCall, MayFollow}
 use Rattle.rv_select.specs.Holding.{may_hold}
-use Rattle.reg_assign.specs.Check.{HasHolding, AreAllowed, Needed, Read, Later}
+use Rattle.placed_code.specs.Check.{HasHolding, AreAllowed, Needed, Read, Later}
 use Rattle.reg_assign.specs.Numbers.{register_at}
 use Rattle.reg_assign.specs.Flow.{Behind, IsVirtual, IsKept, IsTold, EachTold}
 use Rattle.reg_assign.specs.Walks.{Reaches}
 use Rattle.reg_assign.specs.Fits.{IsBeginning}
-use Rattle.reg_assign.proofs.Names.{equal_of}
+use Rattle.placed_code.proofs.Public.{equal_of}
 
 -- ---- members of a list
 

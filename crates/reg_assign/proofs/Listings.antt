@@ -10,7 +10,7 @@ use Rattle.rv_select.specs.declared.code.VirtualItem.{VirtualItem}
 use Rattle.rv_select.specs.Holding.{Among, handed_on}
 use Rattle.reg_assign.specs.Numbers.{number_of, register_at}
 use Rattle.reg_assign.specs.Flow.{Adds, IsListed, IsTold, ReadsTold, WritesTold, EachTold}
-use Rattle.reg_assign.proofs.Names.{equal_of}
+use Rattle.placed_code.proofs.Public.{equal_of}
 
 -- ---- registers by numbers
 

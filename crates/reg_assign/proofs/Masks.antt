@@ -15,7 +15,7 @@ use Rattle.rv_select.specs.declared.code.VirtualItem.{VirtualItem}
 use Rattle.rv_select.specs.declared.code.VirtualItem.TheVariants.{Call, CallAt}
 use Rattle.rv_select.specs.Holding.{may_hold, writes, NoneAt, SparedBy, SparedByCall}
 use Rattle.reg_assign.specs.Room.{Tells}
-use Rattle.reg_assign.proofs.Names.{equal_of}
+use Rattle.placed_code.proofs.Public.{equal_of}
 
 pub held_range : (r : ℕ) → may_hold r ≡ true → (3 ≤ r) × (r < 25)
 held_range r h = (grind arith, grind arith)

@@ -13,11 +13,11 @@ use Rattle.rv_select.specs.declared.code.VirtualItem.TheVariants.{Procedure}
 use Rattle.rv_select.specs.Marks.{procedures, numbers_from}
 use Rattle.rv_select.specs.Select.{select_items}
 use Rattle.rv_select.specs.Selected.{IsCodeOf}
-use Rattle.reg_assign.specs.Slots.{expand, expand_all, final_items}
-use Rattle.reg_assign.specs.Slotted.{free_mark}
-use Rattle.reg_assign.specs.Places.{place_in}
-use Rattle.reg_assign.specs.Rename.{Naming, densely, rename_all, renamed}
-use Rattle.reg_assign.specs.Applied.{IsApplied}
+use Rattle.placed_code.specs.Slots.{expand, expand_all, final_items}
+use Rattle.placed_code.specs.Slotted.{free_mark}
+use Rattle.placed_code.specs.Places.{place_in}
+use Rattle.placed_code.specs.Rename.{Naming, densely, rename_all, renamed}
+use Rattle.placed_code.specs.Applied.{IsApplied}
 use Rattle.reg_assign.specs.Images.{words_code, HaveAddresses}
 
 -- ---- numbers of procedures

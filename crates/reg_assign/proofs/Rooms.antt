@@ -14,14 +14,14 @@ use Rattle.rv_select.specs.declared.code.Place.TheVariants.{InReg, Slot}
 use Rattle.rv_select.specs.declared.code.VirtualItem.{VirtualItem}
 use Rattle.rv_select.specs.declared.code.VirtualItem.TheVariants.{Call, CallAt}
 use Rattle.rv_select.specs.Holding.{Among, reads, writes, place_of, NoneAt, SparedBy, may_hold}
-use Rattle.reg_assign.specs.Check.{HasHolding, AreAllowed, Needed, Read, with_place}
+use Rattle.placed_code.specs.Check.{HasHolding, AreAllowed, Needed, Read, with_place}
 use Rattle.reg_assign.specs.Flow.{Behind, IsKept, IsListed, IsRead}
 use Rattle.reg_assign.specs.Numbers.{register_at}
 use Rattle.reg_assign.specs.Walks.{IsIdle, IsWalk, IsClosed}
 use Rattle.reg_assign.specs.declared.walks.Walk.{Walk}
 use Rattle.reg_assign.specs.declared.assign.Room.{Room}
 use Rattle.reg_assign.specs.Room.{Known, IsBusy, IsRoom, Tells}
-use Rattle.reg_assign.proofs.Names.{equal_of}
+use Rattle.placed_code.proofs.Public.{equal_of}
 use Rattle.reg_assign.proofs.Walking.{behind_needed, all_found}
 use Rattle.reg_assign.proofs.Kept.{kept_by_walk, kept_of_all, behind_kept, none_where_kept, holding_of, is_member}
 use Rattle.reg_assign.proofs.Kept.{member_is}

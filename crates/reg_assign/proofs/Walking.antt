@@ -15,11 +15,11 @@ use Rattle.rv_select.specs.declared.code.VirtualItem.{VirtualItem}
 use Rattle.rv_select.specs.declared.code.VirtualItem.TheVariants.{Mark}
 use Rattle.rv_select.specs.Holding.{Among, reads, writes, target}
 use Rattle.reg_assign.specs.declared.walks.Walk.{Walk}
-use Rattle.reg_assign.specs.Check.{Needed, Read, Later}
+use Rattle.placed_code.specs.Check.{Needed, Read, Later}
 use Rattle.reg_assign.specs.Numbers.{register_at}
 use Rattle.reg_assign.specs.Flow.{Behind, IsListed, IsTarget, IsRead, mark_of}
 use Rattle.reg_assign.specs.Walks.{IsWalk, Grows, Reaches, HasRoots, IsClosed, Leads}
-use Rattle.reg_assign.proofs.Names.{equal_of}
+use Rattle.placed_code.proofs.Public.{equal_of}
 
 append_none : (xs : List ℕ) → xs ≡ xs ++ []
 append_none [] = refl

@@ -7,9 +7,9 @@ use Rattle.rv_select.specs.declared.code.VirtualItem.{VirtualItem}
 use Rattle.rv_select.specs.declared.code.VirtualItem.TheVariants.{Procedure}
 use Rattle.reg_assign.specs.declared.check.Spot.{Spot}
 use Rattle.reg_assign.specs.declared.check.Spot.TheVariants.{Numbered, InSlot}
-use Rattle.reg_assign.specs.Places.{place_in}
+use Rattle.placed_code.specs.Places.{place_in}
 use Rattle.rv_select.specs.Holding.{place_of, SparedBy}
-use Rattle.reg_assign.specs.Check.{HasHolding}
+use Rattle.placed_code.specs.Check.{HasHolding}
 use Rattle.reg_assign.specs.Flow.{IsVirtual}
 
 -- there is a place for each of so many registers, none of them a real register that code or the machine needs, and the

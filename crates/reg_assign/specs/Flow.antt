@@ -7,7 +7,7 @@ use Rattle.rv_select.specs.declared.code.Place.{Place}
 use Rattle.rv_select.specs.declared.code.VirtualItem.{VirtualItem}
 use Rattle.rv_select.specs.declared.code.VirtualItem.TheVariants.{Mark, Procedure}
 use Rattle.rv_select.specs.Holding.{Among, reads, writes, target, place_of, SparedBy, MayFollow}
-use Rattle.reg_assign.specs.Check.{Needed}
+use Rattle.placed_code.specs.Check.{Needed}
 use Rattle.reg_assign.specs.Numbers.{register_at}
 
 -- ---- one register

@@ -25,10 +25,10 @@ use Rattle.rv_select.specs.declared.code.Place.{Place}
 use Rattle.rv_select.specs.Prices.{start_price}
 use Rattle.rv_select.specs.Select.{select_items, registers_of}
 use Rattle.rv_select.specs.Stacks.{frame_size, frames_size, low_in_stack}
-use Rattle.reg_assign.specs.Slotted.{room_in}
-pub use Rattle.reg_assign.specs.Slotted.{words_setting}
-use Rattle.reg_assign.specs.Places.{place_in}
-use Rattle.reg_assign.specs.Applied.{applied}
+use Rattle.placed_code.specs.Slotted.{room_in}
+pub use Rattle.placed_code.specs.Slotted.{words_setting}
+use Rattle.placed_code.specs.Places.{place_in}
+use Rattle.placed_code.specs.Applied.{applied}
 use Rattle.reg_assign.specs.Room.{IsBest}
 
 -- the real code of procedures, of which the one with this number is called first: that of their virtual code, whose

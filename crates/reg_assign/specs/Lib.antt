@@ -1,11 +1,3 @@
-pub mod Slots
-pub mod Slotted
-pub mod Places
-pub mod Rename
-pub mod Sized
-pub mod Applied
-pub mod Check
-pub mod Prices
 pub mod Numbers
 pub mod Flow
 pub mod Walks

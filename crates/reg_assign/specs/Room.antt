@@ -7,8 +7,8 @@ use Rattle.rv_select.specs.declared.code.Place.TheVariants.{InReg, Slot}
 use Rattle.rv_select.specs.declared.code.VirtualItem.{VirtualItem}
 use Rattle.rv_select.specs.Holding.{Among, reads, place_of, may_hold, SparedBy}
 use Rattle.reg_assign.specs.declared.assign.Room.{Room}
-use Rattle.reg_assign.specs.Places.{place_in}
-use Rattle.reg_assign.specs.Check.{HasHolding, with_place}
+use Rattle.placed_code.specs.Places.{place_in}
+use Rattle.placed_code.specs.Check.{HasHolding, with_place}
 use Rattle.reg_assign.specs.Flow.{Behind}
 use Rattle.reg_assign.specs.Walks.{IsIdle, IsWalk, IsClosed}
 use Rattle.reg_assign.specs.declared.walks.Walk.{Walk}

@@ -4,11 +4,11 @@
 ghost use Rattle.std.specs.Prelude.{◌≡◌, ◌<◌, ◌^◌, ◌+◌, ◌++◌, true, IfOk, OnOk, ℕ};
 ghost use Rattle.rv_select.specs.Fitting.{each_fits};
 ghost use Rattle.rv_select.specs.Holding.{place_of};
-ghost use Rattle.reg_assign.specs.Slotted.{EachHasFew};
-ghost use Rattle.reg_assign.specs.Places.{place_in};
-ghost use Rattle.reg_assign.specs.Rename.{densely, kept_in, index_of, named, rename, rename_all, renamed};
-ghost use Rattle.reg_assign.specs.Check.{HasHolding};
-ghost use Rattle.reg_assign.specs.Applied.{IsApplied};
+ghost use Rattle.placed_code.specs.Slotted.{EachHasFew};
+ghost use Rattle.placed_code.specs.Places.{place_in};
+ghost use Rattle.placed_code.specs.Rename.{densely, kept_in, index_of, named, rename, rename_all, renamed};
+ghost use Rattle.placed_code.specs.Check.{HasHolding};
+ghost use Rattle.placed_code.specs.Applied.{IsApplied};
 
 use crate::assignment::{Assignment, place_at};
 use crate::slots::slots;

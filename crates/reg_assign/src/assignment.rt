@@ -1,7 +1,7 @@
 // Where the virtual registers of a code are kept.
 
 ghost use Rattle.std.specs.Prelude.{◌≡◌};
-ghost use Rattle.reg_assign.specs.Places.{place_in};
+ghost use Rattle.placed_code.specs.Places.{place_in};
 
 use grift_base::lists::Items;
 use rv_select::code::Place;

@@ -4,8 +4,8 @@ ghost use Rattle.std.specs.Prelude.{◌≡◌, ◌<◌, ◌↔◌, ℕ, suc, len
 ghost use Rattle.std.specs.Prelude.{Contains};
 ghost use Rattle.rv_select.specs.Holding.{place_of, may_hold, NoneAt, SparedByCall, SparedBy, writes};
 ghost use Rattle.rv_select.specs.declared.code.VirtualItem.{VirtualItem};
-ghost use Rattle.reg_assign.specs.Places.{place_in};
-ghost use Rattle.reg_assign.specs.Check.{AreAllowed, HasHolding};
+ghost use Rattle.placed_code.specs.Places.{place_in};
+ghost use Rattle.placed_code.specs.Check.{AreAllowed, HasHolding};
 ghost use Rattle.rv_select.specs.declared.code.Place.TheVariants.{InReg};
 ghost use Rattle.reg_assign.specs.Numbers.{register_at};
 ghost use Rattle.reg_assign.specs.Flow.{IsKept, IsVirtual, IsListed, IsRead, IsTarget, under};

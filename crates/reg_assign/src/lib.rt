@@ -8,7 +8,6 @@ pub mod assignment;
 pub mod check;
 mod flow;
 pub mod images;
-pub mod laws;
 mod named;
 mod positions;
 mod slot_parts;

@@ -5,12 +5,12 @@ ghost use Rattle.rv_isa.specs.Bits.{IsBelow};
 ghost use Rattle.rv_isa.specs.declared.inst.Inst.TheVariants.{Addi, Slli};
 ghost use Rattle.rv_machine.specs.declared.real.RealItem.TheVariants.{Op};
 ghost use Rattle.std.specs.Prelude.{◌==◌, if◌then◌else◌};
-ghost use Rattle.reg_assign.specs.Slots.{chunk_of, chunk_items, is_half, upper_of, lower_of, long_items, word_items};
-ghost use Rattle.reg_assign.specs.Slots.{slot_offset, register_for, slot_fetch, slot_save_of, slot_save};
+ghost use Rattle.placed_code.specs.Slots.{chunk_of, chunk_items, is_half, upper_of, lower_of, long_items, word_items};
+ghost use Rattle.placed_code.specs.Slots.{slot_offset, register_for, slot_fetch, slot_save_of, slot_save};
 ghost use Rattle.rv_select.specs.Stacks.{frame_size};
-ghost use Rattle.reg_assign.specs.Slots.{fetch_items, save_items, constant_items, move_items, raise_items};
-ghost use Rattle.reg_assign.specs.Slots.{leave_items, enter_items, negated};
-ghost use Rattle.reg_assign.specs.Slots.{final_items};
+ghost use Rattle.placed_code.specs.Slots.{fetch_items, save_items, constant_items, move_items, raise_items};
+ghost use Rattle.placed_code.specs.Slots.{leave_items, enter_items, negated};
+ghost use Rattle.placed_code.specs.Slots.{final_items};
 ghost use Rattle.rv_select.specs.declared.convention.TheConstants.{FIRST_SPILL};
 
 use grift_base::environment::STACK_OUT_CALL;

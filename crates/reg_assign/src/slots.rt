@@ -3,9 +3,9 @@
 ghost use Rattle.std.specs.Prelude.{◌≡◌, ◌<◌, ◌^◌, ◌++◌, ◌∷◌, [], true, OnOk, IfOk};
 ghost use Rattle.rv_select.specs.Run.{fits_item};
 ghost use Rattle.rv_select.specs.Fitting.{fits, each_fits};
-ghost use Rattle.reg_assign.specs.Slots.{op_inst, op_with, expand, expand_all, fetch_items, save_items};
+ghost use Rattle.placed_code.specs.Slots.{op_inst, op_with, expand, expand_all, fetch_items, save_items};
 ghost use Rattle.rv_select.specs.Marks.{marks};
-ghost use Rattle.reg_assign.specs.Slotted.{above, free_mark, HasFew, EachHasFew, IsSlotsOf};
+ghost use Rattle.placed_code.specs.Slotted.{above, free_mark, HasFew, EachHasFew, IsSlotsOf};
 ghost use Rattle.rv_machine.specs.declared.real.RealItem.TheVariants.{Op};
 ghost use Rattle.rv_select.specs.declared.convention.TheConstants.{FIRST_SPILL};
 

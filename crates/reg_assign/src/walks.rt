@@ -5,7 +5,7 @@ ghost use Rattle.std.specs.Prelude.{Contains, slice_get, true};
 ghost use Rattle.std.specs.Option.{option_copied};
 ghost use Rattle.rv_select.specs.Holding.{Among, writes, has_next, target};
 ghost use Rattle.rv_select.specs.declared.code.VirtualItem.{VirtualItem};
-ghost use Rattle.reg_assign.specs.Check.{Needed};
+ghost use Rattle.placed_code.specs.Check.{Needed};
 ghost use Rattle.reg_assign.specs.Numbers.{register_at};
 ghost use Rattle.reg_assign.specs.Flow.{IsListed, IsRead, IsTarget, under};
 ghost use Rattle.reg_assign.specs.Walks.{IsIdle, IsWalk, Grows, Reaches, IsClosed, Leads, Steps};

@@ -8,7 +8,7 @@ ghost use Rattle.rv_emulator.specs.Widths.{width_of};
 use grift_base::lists::OutOfMemory;
 
 /// How many bytes are read or written at once: 1, 2, 4 or 8.
-#[derive(Clone, Copy, PartialEq, Eq, Debug)]
+#[derive(Clone, Copy, PartialEq, Eq)]
 pub enum Width {
     B1,
     B2,

@@ -5,7 +5,7 @@ use grift_base::verdicts::{Answer, Trap};
 
 /// Why a run stopped. Every stop leaves registers, memory, world and pc as before the instruction that
 /// stopped.
-#[derive(Clone, Copy, PartialEq, Eq, Debug)]
+#[derive(Clone, Copy, PartialEq, Eq)]
 pub enum Stop {
     /// The program has come to an answer.
     Ended(Answer),
@@ -30,7 +30,7 @@ pub enum Stop {
 }
 
 /// Why a run stopped whose output is put in blocks.
-#[derive(Clone, Copy, PartialEq, Eq, Debug)]
+#[derive(Clone, Copy, PartialEq, Eq)]
 pub enum BlockStop {
     /// As a run stops. All that was printed is put, except for want of memory, where the machine keeps the rest.
     Stopped(Stop),

@@ -33,7 +33,7 @@ fn low_bits_of(half: u32, value: i32) -> u32
 }
 
 /// A register, told by its number, from 0 to 31.
-#[derive(Clone, Copy, PartialEq, Eq, Debug)]
+#[derive(Clone, Copy, PartialEq, Eq)]
 pub struct Reg {
     number: u8,
 }

@@ -6,23 +6,20 @@ use Rattle.grift_base.specs.declared.refusals.RefusalKind.{RefusalKind}
 use Rattle.grift_base.specs.declared.refusals.FrontFault.{FrontFault}
 use Rattle.grift_base.specs.declared.refusals.FrontFault.TheVariants.{Refused, OutOfMemory}
 use Rattle.sexpr_reader.specs.Datum.{Datums, depth_of as datums_depth}
-use Rattle.surface_syntax.specs.Marked.{Sexprs, all_marked, how_many}
+use Rattle.form_table.specs.Marked.{Sexprs, all_marked, how_many}
 use Rattle.surface_trees.specs.Trees.{Expr}
-use Rattle.surface_syntax.specs.Written.{Top}
-use Rattle.surface_syntax.specs.Walking.{Walked, Reads, Refuses}
-use Rattle.surface_syntax.specs.TopWalk.{walk_program}
-use Rattle.surface_syntax.specs.Expansion.{Part, whole, expand_tops}
-use Rattle.surface_syntax.specs.Pass.{parse_tops}
-use Rattle.surface_syntax.specs.Depth.{depth}
-use Rattle.surface_syntax.specs.Freshness.{BindsFreshOnce}
-use Rattle.surface_syntax.specs.Claims.{Parses}
-use Rattle.surface_syntax.specs.Programs.{AreExpr, AreNoProgram, IsFault}
-use Rattle.surface_syntax.proofs.Binds.{read_is_one, stopped}
-use Rattle.surface_syntax.proofs.Bridge.{expanded}
-use Rattle.surface_syntax.proofs.TopBridge.{tops_are}
-use Rattle.surface_syntax.proofs.TopSound.{brackets_of_are, program_shallow, program_fresh}
-use Rattle.surface_syntax.proofs.Public.{the_walk_reads_the_table_of_programs-each}
-use Rattle.surface_syntax.proofs.Public.{the_walk_reads_the_table_of_programs-alone}
+use Rattle.derived_forms.specs.Written.{Top}
+use Rattle.form_table.specs.Walking.{Walked, Reads, Refuses}
+use Rattle.form_table.specs.TopWalk.{walk_program}
+use Rattle.derived_forms.specs.Expansion.{Part, whole, expand_tops}
+use Rattle.form_table.specs.Pass.{parse_tops}
+use Rattle.form_table.specs.Depth.{depth}
+use Rattle.form_table.specs.Freshness.{BindsFreshOnce}
+use Rattle.form_table.specs.Claims.{Parses}
+use Rattle.form_table.specs.Programs.{AreExpr, AreNoProgram, IsFault}
+use Rattle.form_table.proofs.Public.{brackets_of_are, expanded, program_fresh, program_shallow, read_is_one, stopped}
+use Rattle.form_table.proofs.Public.{the_walk_reads_the_table_of_programs-alone}
+use Rattle.form_table.proofs.Public.{the_walk_reads_the_table_of_programs-each, tops_are}
 
 -- the pass, by what the walk answers
 pass_of : (ds : Sexprs) (w : Walked (List Top)) → walk_program ds ≡ w

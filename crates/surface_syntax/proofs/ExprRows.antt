@@ -2,15 +2,15 @@
 use Rattle.std.proofs.Common.{◌≡◌, ◌≢◌, ◌-◌, ℕ, zero, suc, true, Some, None, refl, ap, ◌∙◌, arith}
 use Rattle.grift_base.specs.declared.places.Pos.{Pos}
 use Rattle.grift_base.specs.declared.refusals.RefusalKind.TheVariants.{BadForm, TooWide}
-use Rattle.surface_syntax.specs.declared.words.Word.{Word}
-use Rattle.surface_syntax.specs.declared.words.Word.TheVariants.{Arrow}
-use Rattle.surface_syntax.specs.Words.{is_arrow_word}
-use Rattle.surface_syntax.specs.Marked.{Sexpr, Sexprs, number, truth_value, word, name, list, ◌▹◌, place, reserved_at}
+use Rattle.form_table.specs.declared.words.Word.{Word}
+use Rattle.form_table.specs.declared.words.Word.TheVariants.{Arrow}
+use Rattle.form_table.specs.Words.{is_arrow_word}
+use Rattle.form_table.specs.Marked.{Sexpr, Sexprs, number, truth_value, word, name, list, ◌▹◌, place, reserved_at}
 use Rattle.surface_trees.specs.Trees.{ExprThen}
-use Rattle.surface_syntax.specs.Walking.{Reads, Refuses}
-use Rattle.surface_syntax.specs.Pass.{then_with, parse, parse_list, parse_within}
+use Rattle.form_table.specs.Walking.{Reads, Refuses}
+use Rattle.form_table.specs.Pass.{then_with, parse, parse_list, parse_within}
 use Rattle.surface_syntax.specs.Parts.{parse_call}
-use Rattle.surface_syntax.proofs.Steps.{reserved_is}
+use Rattle.form_table.proofs.Public.{reserved_is}
 
 -- ---- so many expressions
 

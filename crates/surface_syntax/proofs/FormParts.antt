@@ -6,25 +6,25 @@ use Rattle.grift_base.specs.declared.refusals.FrontFault.{FrontFault}
 use Rattle.grift_base.specs.declared.refusals.FrontFault.TheVariants.{Refused, OutOfMemory}
 use Rattle.grift_base.specs.declared.places.Pos.{Pos}
 use Rattle.grift_base.specs.declared.refusals.RefusalKind.TheVariants.{BadForm}
-use Rattle.surface_syntax.specs.declared.words.Word.{Word}
-use Rattle.surface_syntax.specs.declared.words.Word.TheVariants.{Lambda, Let, Letrec, If, Begin, And, Or, Repeat, Tuple}
-use Rattle.surface_syntax.specs.declared.words.Word.TheVariants.{TupleProj, Define, Colon, Arrow, Operator}
+use Rattle.form_table.specs.declared.words.Word.{Word}
+use Rattle.form_table.specs.declared.words.Word.TheVariants.{Lambda, Let, Letrec, If, Begin, And, Or, Repeat, Tuple}
+use Rattle.form_table.specs.declared.words.Word.TheVariants.{TupleProj, Define, Colon, Arrow, Operator}
 use Rattle.surface_syntax.specs.declared.operands.Head.TheVariants.{Operator as OperatorHead}
-use Rattle.surface_syntax.specs.Words.{is_arrow_word, operand_count}
-use Rattle.surface_syntax.specs.Marked.{Sexpr, Sexprs, number, word, name, list, end, ◌▹◌, place}
-use Rattle.surface_syntax.specs.Marked.{reserved_at, how_many}
+use Rattle.form_table.specs.Words.{is_arrow_word, operand_count}
+use Rattle.form_table.specs.Marked.{Sexpr, Sexprs, number, word, name, list, end, ◌▹◌, place}
+use Rattle.form_table.specs.Marked.{reserved_at, how_many}
 use Rattle.surface_trees.specs.Trees.{Expr, TypeExpr, Param, ExprAt, LambdaNode, AscribeNode}
-use Rattle.surface_syntax.specs.Walking.{Walked, Reads, Refuses, followed_by, test, binder, colon}
-use Rattle.surface_syntax.specs.Walk.{Bound, walk_type, walk_param_list}
-use Rattle.surface_syntax.specs.TopWalk.{has_body}
-use Rattle.surface_syntax.specs.Pass.{Parsing, ParsedRange, then_with, paired, parse, parse_list, parse_lambda}
-use Rattle.surface_syntax.specs.Pass.{parse_binding, parse_member, parse_lambda_form, parse_range}
+use Rattle.form_table.specs.Walking.{Walked, Reads, Refuses, followed_by, test, binder, colon}
+use Rattle.form_table.specs.Walk.{Bound, walk_type, walk_param_list}
+use Rattle.form_table.specs.TopWalk.{has_body}
+use Rattle.form_table.specs.Pass.{Parsing, ParsedRange, then_with, paired, parse, parse_list, parse_lambda}
+use Rattle.form_table.specs.Pass.{parse_binding, parse_member, parse_lambda_form, parse_range}
 use Rattle.surface_syntax.specs.Parts.{parse_behind}
 use Rattle.surface_syntax.specs.Forms.{parse_operands, applied_to, headed_of, lambda_from}
 use Rattle.surface_syntax.specs.Forms.{body_from, behind_from, function_from, bound_from}
 use Rattle.surface_syntax.specs.Forms.{range_from, counted_of, gathered_of, repeat_behind}
-use Rattle.surface_syntax.specs.Claims.{Answers, Parses}
-use Rattle.surface_syntax.proofs.Steps.{reserved_is}
+use Rattle.form_table.specs.Claims.{Answers, Parses}
+use Rattle.form_table.proofs.Public.{reserved_is}
 use Rattle.surface_syntax.proofs.FormRows.{lambda_lacks, lambda_has}
 
 -- ---- lines without fresh names, one after another

@@ -7,18 +7,18 @@ use Rattle.grift_base.specs.declared.refusals.RefusalKind.{RefusalKind}
 use Rattle.grift_base.specs.declared.refusals.RefusalKind.TheVariants.{BadForm}
 use Rattle.grift_base.specs.declared.refusals.FrontFault.{FrontFault}
 use Rattle.grift_base.specs.declared.refusals.FrontFault.TheVariants.{Refused, OutOfMemory}
-use Rattle.surface_syntax.specs.declared.words.Word.TheVariants.{Colon}
-use Rattle.surface_syntax.specs.declared.words.Mark.{Mark}
-use Rattle.surface_syntax.specs.declared.words.Mark.TheVariants.{Reserved, Free}
-use Rattle.surface_syntax.specs.Marked.{Sexpr, Sexprs, number, word, end, ◌▹◌, marked_symbol}
+use Rattle.form_table.specs.declared.words.Word.TheVariants.{Colon}
+use Rattle.form_table.specs.declared.words.Mark.{Mark}
+use Rattle.form_table.specs.declared.words.Mark.TheVariants.{Reserved, Free}
+use Rattle.form_table.specs.Marked.{Sexpr, Sexprs, number, word, end, ◌▹◌, marked_symbol}
 use Rattle.surface_trees.specs.Trees.{TypeExpr}
-use Rattle.surface_syntax.specs.Walking.{Walked, Reads, Refuses, followed_by}
-use Rattle.surface_syntax.specs.Walk.{walk_param_list}
-use Rattle.surface_syntax.specs.TopWalk.{has_body}
-use Rattle.surface_syntax.specs.Pass.{Parsing, then_with, paired, parse_lambda}
+use Rattle.form_table.specs.Walking.{Walked, Reads, Refuses, followed_by}
+use Rattle.form_table.specs.Walk.{walk_param_list}
+use Rattle.form_table.specs.TopWalk.{has_body}
+use Rattle.form_table.specs.Pass.{Parsing, then_with, paired, parse_lambda}
 use Rattle.surface_syntax.specs.Parts.{part_number, parse_behind}
-use Rattle.surface_syntax.specs.Claims.{Answers, Parses}
-use Rattle.surface_syntax.proofs.Binds.{stopped, went_out}
+use Rattle.form_table.specs.Claims.{Answers, Parses}
+use Rattle.form_table.proofs.Public.{stopped, went_out}
 
 -- ---- one line after another, and the first that is refused
 

@@ -1,7 +1,7 @@
 -- The forms of a program are put together from the last one on.
 use Rattle.std.proofs.Common.{◌≡◌, List, [], ◌∷◌, ◌++◌, map, refl, sym, ap, ◌∙◌}
 use Rattle.surface_syntax.specs.declared.tops.Part.{Part as RustPart}
-use Rattle.surface_syntax.specs.Expansion.{Part, Rest, closed, before, ending, joined, whole}
+use Rattle.derived_forms.specs.Expansion.{Part, Rest, closed, before, ending, joined, whole}
 use Rattle.surface_syntax.specs.TopParts.{part_of}
 use Rattle.surface_syntax.proofs.Rows.{last_part}
 

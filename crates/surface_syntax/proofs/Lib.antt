@@ -1,25 +1,10 @@
-pub mod Public
-mod TextTables
-mod Steps
+mod TypeHeads
 mod ParamRows
-mod NewNames
-mod Runs
-mod Binds
-mod TypesFound
-mod TypesRead
-mod FormsFound
-mod FormsRead
-mod TopsFound
-mod TopsRead
 mod ExprRows
 mod FormRows
 mod FormParts
 mod Shapes
 mod Loops
-mod Bridge
 mod Rows
-mod TopBridge
 mod Joined
-mod Sound
-mod TopSound
 mod Answered

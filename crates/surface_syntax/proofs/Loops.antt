@@ -7,18 +7,20 @@ use Rattle.grift_base.specs.declared.refusals.FrontFault.TheVariants.{Refused, O
 use Rattle.surface_trees.specs.declared.names.Ident.{Ident}
 use Rattle.surface_trees.specs.declared.names.Ident.TheVariants.{Source}
 use Rattle.surface_trees.specs.declared.exprs.Expr.{Expr as RustExpr}
-use Rattle.surface_syntax.specs.Marked.{Sexpr, Sexprs, ◌▹◌}
+use Rattle.form_table.specs.Marked.{Sexpr, Sexprs, ◌▹◌}
 use Rattle.surface_trees.specs.Trees.{TypeExpr, Exprs, ExprThen, LetThen}
 use Rattle.surface_trees.specs.Trees.{LetrecThen}
-use Rattle.surface_syntax.specs.Walking.{Walked, Reads, Refuses}
-use Rattle.surface_syntax.specs.Walk.{Bound}
-use Rattle.surface_syntax.specs.Pass.{Parsing, then_with, parse, parse_each, parse_binding, parse_lets, parse_member}
-use Rattle.surface_syntax.specs.Pass.{parse_letrecs}
+use Rattle.form_table.specs.Walking.{Walked, Reads, Refuses}
+use Rattle.form_table.specs.Walk.{Bound}
+use Rattle.form_table.specs.Pass.{Parsing, then_with, parse, parse_each, parse_binding, parse_lets, parse_member}
+use Rattle.form_table.specs.Pass.{parse_letrecs}
 use Rattle.surface_trees.specs.Views.{expr_of, source_of}
-use Rattle.surface_syntax.specs.Parts.{exprs_before, lets_before, letrecs_before, name_of_binding, type_of_binding}
-use Rattle.surface_syntax.specs.Parts.{value_of_binding, name_of_member, type_of_member, fun_of_member, in_box}
-use Rattle.surface_syntax.specs.Claims.{Parses}
-use Rattle.surface_syntax.proofs.Binds.{stopped, went_out}
+use Rattle.surface_trees.specs.Views.{name_of_binding, type_of_binding, value_of_binding, name_of_member}
+use Rattle.surface_trees.specs.Views.{type_of_member, fun_of_member}
+use Rattle.surface_syntax.specs.Parts.{exprs_before, lets_before, letrecs_before}
+use Rattle.surface_syntax.specs.Parts.{in_box}
+use Rattle.form_table.specs.Claims.{Parses}
+use Rattle.form_table.proofs.Public.{stopped, went_out}
 use Rattle.surface_syntax.proofs.FormRows.{stops}
 
 -- an answer with another list

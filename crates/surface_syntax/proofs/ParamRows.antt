@@ -7,20 +7,20 @@ use Rattle.grift_base.specs.declared.refusals.RefusalKind.{RefusalKind}
 use Rattle.grift_base.specs.declared.refusals.RefusalKind.TheVariants.{BadForm, TooWide}
 use Rattle.grift_base.specs.declared.refusals.FrontFault.{FrontFault}
 use Rattle.grift_base.specs.declared.refusals.FrontFault.TheVariants.{Refused, OutOfMemory}
-use Rattle.surface_syntax.specs.declared.words.Mark.{Mark}
-use Rattle.surface_syntax.specs.declared.words.Mark.TheVariants.{Reserved, Free}
+use Rattle.form_table.specs.declared.words.Mark.{Mark}
+use Rattle.form_table.specs.declared.words.Mark.TheVariants.{Reserved, Free}
 use Rattle.surface_trees.specs.declared.types.Param.{Param as RustParam}
 use Rattle.surface_trees.specs.declared.names.Ident.TheVariants.{Source}
-use Rattle.surface_syntax.specs.Marked.{Sexpr, Sexprs, list, end, ◌▹◌, place, marked_symbol}
+use Rattle.form_table.specs.Marked.{Sexpr, Sexprs, list, end, ◌▹◌, place, marked_symbol}
 use Rattle.surface_trees.specs.Trees.{Param, TypeExpr}
-use Rattle.surface_syntax.specs.Walking.{Walked, Reads, Refuses, followed_by, binder, colon}
-use Rattle.surface_syntax.specs.Walk.{plain_param, walk_param, walk_params, walk_param_list, walk_type}
+use Rattle.form_table.specs.Walking.{Walked, Reads, Refuses, followed_by, binder, colon}
+use Rattle.form_table.specs.Walk.{plain_param, walk_param, walk_params, walk_param_list, walk_type}
 use Rattle.surface_syntax.specs.Elements.{three_of}
 use Rattle.surface_syntax.specs.Parts.{typed_name}
 use Rattle.surface_trees.specs.Views.{source_of, param_of, params_of, named_param_of}
-use Rattle.surface_syntax.specs.Claims.{Answers}
-use Rattle.surface_syntax.proofs.Binds.{stopped, went_out}
-use Rattle.surface_syntax.proofs.Steps.{place_symbol, place_marked, reads_then, refuses_then, colon_stands, colon_lacks}
+use Rattle.form_table.specs.Claims.{Answers}
+use Rattle.form_table.proofs.Public.{colon_lacks, colon_stands, place_marked, place_symbol, reads_then, refuses_then}
+use Rattle.form_table.proofs.Public.{stopped, went_out}
 
 pub symbol_param : (seen : List (List ℕ)) (p : Pos) (x : List ℕ) (m : Mark)
     → walk_param seen (marked_symbol p x m) ≡ plain_param seen (marked_symbol p x m)

@@ -12,27 +12,26 @@ use Rattle.sexpr_reader.specs.declared.sexps.SexpNode.TheVariants.{Int as IntCas
 use Rattle.sexpr_reader.specs.declared.sexps.SexpNode.TheVariants.{Symbol as SymbolCase, List as ListCase}
 use Rattle.sexpr_reader.specs.declared.sexps.SexpList.{SexpList}
 use Rattle.sexpr_reader.specs.View.{datum_at}
-use Rattle.surface_syntax.specs.declared.words.Word.TheVariants.{Lambda, Let, Letrec, If, Begin, And, Or, Repeat, Tuple}
-use Rattle.surface_syntax.specs.declared.words.Word.TheVariants.{TupleProj, Define, Colon, Arrow, Operator}
-use Rattle.surface_syntax.specs.declared.words.Mark.{Mark}
-use Rattle.surface_syntax.specs.declared.words.Mark.TheVariants.{Reserved, Free}
+use Rattle.form_table.specs.declared.words.Word.TheVariants.{Lambda, Let, Letrec, If, Begin, And, Or, Repeat, Tuple}
+use Rattle.form_table.specs.declared.words.Word.TheVariants.{TupleProj, Define, Colon, Arrow, Operator}
+use Rattle.form_table.specs.declared.words.Mark.{Mark}
+use Rattle.form_table.specs.declared.words.Mark.TheVariants.{Reserved, Free}
 use Rattle.surface_syntax.specs.declared.tops.Part.{Part as RustPart}
-use Rattle.surface_syntax.specs.Marked.{Sexpr, Sexprs, number, truth_value, word, name, list, end, ◌▹◌, place}
-use Rattle.surface_syntax.specs.Words.{mark_of}
-use Rattle.surface_syntax.specs.Marked.{marked_symbol, marked}
+use Rattle.form_table.specs.Marked.{Sexpr, Sexprs, number, truth_value, word, name, list, end, ◌▹◌, place}
+use Rattle.form_table.specs.Words.{mark_of}
+use Rattle.form_table.specs.Marked.{marked_symbol, marked}
 use Rattle.surface_trees.specs.Trees.{TypeExpr, Param, LambdaExpr}
-use Rattle.surface_syntax.specs.Walking.{Walked, Reads, Refuses, test, binder, colon, is_lambda_at}
-use Rattle.surface_syntax.specs.Walk.{walk_type, walk_params}
-use Rattle.surface_syntax.specs.TopWalk.{has_body, run_for}
-use Rattle.surface_syntax.specs.TopTable.{is_lambda_form}
-use Rattle.surface_syntax.specs.Expansion.{Part, ExprPart, ValuePart, FunctionPart}
-use Rattle.surface_syntax.specs.Pass.{Parsing, then_with, paired, parse, parse_lambda, parse_lambda_form}
-use Rattle.surface_syntax.specs.Pass.{parse_bound, parse_define, parse_top, parse_tops, run_behind}
+use Rattle.form_table.specs.Walking.{Walked, Reads, Refuses, test, binder, colon, is_lambda_at}
+use Rattle.form_table.specs.Walk.{walk_type, walk_params}
+use Rattle.form_table.specs.TopWalk.{has_body, run_for}
+use Rattle.form_table.specs.TopTable.{is_lambda_form}
+use Rattle.derived_forms.specs.Expansion.{Part, ExprPart, ValuePart, FunctionPart}
+use Rattle.form_table.specs.Pass.{Parsing, then_with, paired, parse, parse_lambda, parse_lambda_form}
+use Rattle.form_table.specs.Pass.{parse_bound, parse_define, parse_top, parse_tops, run_behind}
 use Rattle.surface_syntax.specs.Parts.{parse_behind}
 use Rattle.surface_syntax.specs.TopParts.{part_of, parse_named, is_definition, parse_definition, Grows}
-use Rattle.surface_syntax.specs.Claims.{Parses}
-use Rattle.surface_syntax.proofs.Steps.{place_marked}
-use Rattle.surface_syntax.proofs.Binds.{stopped, went_out}
+use Rattle.form_table.specs.Claims.{Parses}
+use Rattle.form_table.proofs.Public.{place_marked, stopped, went_out}
 use Rattle.surface_syntax.proofs.FormRows.{typed_then, lambda_has, bind_reads, plain_reads}
 
 -- ---- what is bound

@@ -8,11 +8,11 @@ use Rattle.sexpr_reader.specs.declared.sexps.SexpList.{SexpList}
 use Rattle.sexpr_reader.specs.declared.sexps.SexpList.TheVariants.{Nil, Cons'}
 use Rattle.sexpr_reader.specs.View.{datum_at, datum_of, datums_of}
 use Rattle.surface_trees.specs.declared.exprs.Expr.{Expr as RustExpr}
-use Rattle.surface_syntax.specs.Marked.{Sexprs, list, end, ◌▹◌, place, marked, all_marked}
+use Rattle.form_table.specs.Marked.{Sexprs, list, end, ◌▹◌, place, marked, all_marked}
 use Rattle.surface_trees.specs.Trees.{Expr, ExprAt, ProjNode}
-use Rattle.surface_syntax.specs.Walking.{Walked, Reads}
+use Rattle.form_table.specs.Walking.{Walked, Reads}
 use Rattle.surface_trees.specs.Views.{expr_of}
-use Rattle.surface_syntax.proofs.Steps.{place_marked}
+use Rattle.form_table.proofs.Public.{place_marked}
 
 pub one_first : {a b : _} {p : Pos} {node : SexpNode} (ds : SexpList) {rest : SexpList}
     → ds ≡ Cons' a p node b rest

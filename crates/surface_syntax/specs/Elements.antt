@@ -2,10 +2,10 @@
 use Rattle.std.specs.Prelude.{Option, Some, None}
 use Rattle.grift_base.specs.declared.places.Pos.{Pos}
 use Rattle.grift_base.specs.declared.refusals.RefusalKind.TheVariants.{BadForm}
-use Rattle.surface_syntax.specs.declared.words.Word.TheVariants.{Lambda, Colon}
-use Rattle.surface_syntax.specs.Marked.{Sexpr, Sexprs, word, list, end, ◌▹◌, place}
-use Rattle.surface_syntax.specs.Walking.{Walked, Reads, Refuses, followed_by, test, some}
-use Rattle.surface_syntax.specs.TopWalk.{has_body}
+use Rattle.form_table.specs.declared.words.Word.TheVariants.{Lambda, Colon}
+use Rattle.form_table.specs.Marked.{Sexpr, Sexprs, word, list, end, ◌▹◌, place}
+use Rattle.form_table.specs.Walking.{Walked, Reads, Refuses, followed_by, test, some}
+use Rattle.form_table.specs.TopWalk.{has_body}
 
 -- the elements of a list
 abbrev pub elements : Sexpr → Walked Sexprs

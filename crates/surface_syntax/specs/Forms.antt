@@ -2,23 +2,23 @@
 use Rattle.std.specs.Prelude.{ℕ, true, false, nat_eq, List, [], ◌∷◌, Option, Some, None}
 use Rattle.grift_base.specs.declared.places.Pos.{Pos}
 use Rattle.grift_base.specs.declared.refusals.RefusalKind.TheVariants.{BadForm}
-use Rattle.surface_syntax.specs.declared.words.Word.{Word}
-use Rattle.surface_syntax.specs.declared.words.Word.TheVariants.{Lambda, Let, Letrec, If, Colon, Repeat, TupleProj}
-use Rattle.surface_syntax.specs.declared.words.Word.TheVariants.{Begin as BeginWord, Tuple as TupleWord, And as AndWord}
-use Rattle.surface_syntax.specs.declared.words.Word.TheVariants.{Or as OrWord, Operator as OperatorWord}
+use Rattle.form_table.specs.declared.words.Word.{Word}
+use Rattle.form_table.specs.declared.words.Word.TheVariants.{Lambda, Let, Letrec, If, Colon, Repeat, TupleProj}
+use Rattle.form_table.specs.declared.words.Word.TheVariants.{Begin as BeginWord, Tuple as TupleWord, And as AndWord}
+use Rattle.form_table.specs.declared.words.Word.TheVariants.{Or as OrWord, Operator as OperatorWord}
 use Rattle.surface_syntax.specs.declared.operands.Head.{Head}
 use Rattle.surface_syntax.specs.declared.operands.Head.TheVariants.{Begin, Tuple, And, Or, Operator}
-use Rattle.surface_syntax.specs.Words.{operand_count}
-use Rattle.surface_syntax.specs.Marked.{Sexpr, Sexprs, place, how_many}
+use Rattle.form_table.specs.Words.{operand_count}
+use Rattle.form_table.specs.Marked.{Sexpr, Sexprs, place, how_many}
 use Rattle.surface_trees.specs.Trees.{TypeExpr, Param, Expr, ExprAt, LambdaNode, LetNode}
 use Rattle.surface_trees.specs.Trees.{LetrecNode, IfNode, BeginNode, AscribeNode, TupleNode, ProjNode, PrimNode}
 use Rattle.surface_trees.specs.Trees.{LambdaExpr, LambdaAt, Exprs}
-use Rattle.surface_syntax.specs.Walking.{Walked, Reads, followed_by, test, some, colon, binder}
-use Rattle.surface_syntax.specs.Walk.{Bound, walk_type, walk_param_list}
-use Rattle.surface_syntax.specs.Expansion.{chain_of, fresh, loop_names, repeat_of, repeat_into_of, type_or_dyn}
-use Rattle.surface_syntax.specs.Pass.{Parsing, ParsedRange, ◌>>=◌, give, refuse, plain, named, parse, parse_each}
-use Rattle.surface_syntax.specs.Pass.{parse_within, parse_lets, parse_letrecs, parse_binding}
-use Rattle.surface_syntax.specs.Pass.{parse_range}
+use Rattle.form_table.specs.Walking.{Walked, Reads, followed_by, test, some, colon, binder}
+use Rattle.form_table.specs.Walk.{Bound, walk_type, walk_param_list}
+use Rattle.derived_forms.specs.Expansion.{chain_of, fresh, loop_names, repeat_of, repeat_into_of, type_or_dyn}
+use Rattle.form_table.specs.Pass.{Parsing, ParsedRange, ◌>>=◌, give, refuse, plain, named, parse, parse_each}
+use Rattle.form_table.specs.Pass.{parse_within, parse_lets, parse_letrecs, parse_binding}
+use Rattle.form_table.specs.Pass.{parse_range}
 use Rattle.surface_syntax.specs.Parts.{part_number, parse_behind}
 use Rattle.surface_syntax.specs.Elements.{two_of, three_of, range_parts, names_and_body, repeat_parts, bound_parts}
 use Rattle.surface_syntax.specs.Elements.{lambda_parts, typed_body, behind_lambda}

@@ -7,24 +7,25 @@ use Rattle.grift_base.specs.declared.refusals.RefusalKind.TheVariants.{BadForm}
 use Rattle.surface_syntax.specs.declared.type_forms.TypeHead.{TypeHead}
 use Rattle.surface_syntax.specs.declared.type_forms.TypeHead.TheVariants.{Tuple as TupleHead, Ref as RefHead}
 use Rattle.surface_syntax.specs.declared.type_forms.TypeHead.TheVariants.{Vect as VectHead, Rec as RecHead, Other}
-use Rattle.surface_syntax.specs.declared.words.TypeWord.{TypeWord}
-use Rattle.surface_syntax.specs.declared.words.TypeWord.TheVariants.{Tuple, Ref, Vect, Rec}
-use Rattle.surface_syntax.specs.declared.derived.Range.{Range as RustRange}
+use Rattle.form_table.specs.declared.words.TypeWord.{TypeWord}
+use Rattle.form_table.specs.declared.words.TypeWord.TheVariants.{Tuple, Ref, Vect, Rec}
+use Rattle.derived_forms.specs.declared.loops.Range.{Range as RustRange}
 use Rattle.surface_trees.specs.declared.exprs.Expr.{Expr as RustExpr}
-use Rattle.surface_trees.specs.declared.exprs.Binding.{Binding as RustBinding, out-Binding}
-use Rattle.surface_trees.specs.declared.exprs.Member.{Member as RustMember, out-Member}
+use Rattle.surface_trees.specs.declared.exprs.Binding.{Binding as RustBinding}
+use Rattle.surface_trees.specs.declared.exprs.Member.{Member as RustMember}
 use Rattle.surface_trees.specs.declared.names.Ident.{Ident}
-use Rattle.surface_syntax.specs.declared.words.Word.TheVariants.{Colon}
-use Rattle.surface_syntax.specs.Marked.{Sexpr, Sexprs, number, word, name, end, ◌▹◌, place}
+use Rattle.form_table.specs.declared.words.Word.TheVariants.{Colon}
+use Rattle.form_table.specs.Marked.{Sexpr, Sexprs, number, word, name, end, ◌▹◌, place}
 use Rattle.surface_trees.specs.Trees.{TypeExpr, TypeAt, FunType, TupleType, RefType, VectType, Expr, ExprAt, CallNode}
 use Rattle.surface_trees.specs.Trees.{LambdaExpr, LambdaAt, Exprs, ExprThen, LetBindings, LetThen, LetrecMembers}
 use Rattle.surface_trees.specs.Trees.{LetrecThen, Param}
-use Rattle.surface_syntax.specs.Walk.{Signature, Bound, walk_type, walk_only, walk_types, walk_signature}
-use Rattle.surface_syntax.specs.Expansion.{chain_of}
-use Rattle.surface_syntax.specs.Walking.{Walked, Reads, Refuses, followed_by, test, some, is_arrow, binder, colon}
-use Rattle.surface_syntax.specs.Pass.{Parsing, ParsedRange, ◌>>=◌, give, refuse, plain, parse, parse_each}
-use Rattle.surface_syntax.specs.Pass.{parse_within}
-use Rattle.surface_trees.specs.Views.{type_of, types_of, written_of, source_of, expr_of, lambda_of}
+use Rattle.form_table.specs.Walk.{Signature, Bound, walk_type, walk_only, walk_types, walk_signature}
+use Rattle.derived_forms.specs.Expansion.{chain_of}
+use Rattle.form_table.specs.Walking.{Walked, Reads, Refuses, followed_by, test, some, is_arrow, binder, colon}
+use Rattle.form_table.specs.Pass.{Parsing, ParsedRange, ◌>>=◌, give, refuse, plain, parse, parse_each}
+use Rattle.form_table.specs.Pass.{parse_within}
+use Rattle.surface_trees.specs.Views.{type_of, types_of, source_of, expr_of, name_of_binding, type_of_binding}
+use Rattle.surface_trees.specs.Views.{value_of_binding, name_of_member, type_of_member, fun_of_member}
 
 abbrev pub signature_of : RustSignature → Signature
 signature_of s = record { parameters = types_of s.parameters; result = type_of s.result }
@@ -93,30 +94,12 @@ parse_behind p params end = refuse BadForm p
 abbrev pub range_of : RustRange → ParsedRange
 range_of r = record { counter = r.counter; first = expr_of r.first.value; bound = expr_of r.bound.value }
 
-abbrev pub name_of_binding : RustBinding → Ident
-name_of_binding b = (out-Binding b).name
-
-abbrev pub type_of_binding : RustBinding → Option TypeExpr
-type_of_binding b = written_of (out-Binding b).ty
-
-abbrev pub value_of_binding : RustBinding → Expr
-value_of_binding b = expr_of (out-Binding b).value
-
 abbrev pub bound_of : RustBinding → Bound Expr
 bound_of b = record {
   name = source_of (name_of_binding b);
   written = type_of_binding b;
   value = value_of_binding b;
 }
-
-abbrev pub name_of_member : RustMember → Ident
-name_of_member m = (out-Member m).name
-
-abbrev pub type_of_member : RustMember → Option TypeExpr
-type_of_member m = written_of (out-Member m).ty
-
-abbrev pub fun_of_member : RustMember → LambdaExpr
-fun_of_member m = lambda_of (out-Member m).fun
 
 abbrev pub member_of : RustMember → Bound LambdaExpr
 member_of m = record {

@@ -7,11 +7,11 @@ use Rattle.surface_syntax.specs.declared.tops.Part.TheVariants.{Expr as ExprCase
 use Rattle.surface_syntax.specs.declared.tops.Part.TheVariants.{Function as FunctionCase}
 use Rattle.surface_syntax.specs.declared.programs.Rest.{Rest as RustRest}
 use Rattle.surface_syntax.specs.declared.programs.Rest.TheVariants.{Alone as AloneCase, Run as RunCase}
-use Rattle.surface_syntax.specs.Marked.{Sexpr, Sexprs, list, end, ◌▹◌, place}
-use Rattle.surface_syntax.specs.Walking.{is_define_at, binder}
-use Rattle.surface_syntax.specs.TopWalk.{run_for}
-use Rattle.surface_syntax.specs.Expansion.{Part, ExprPart, ValuePart, FunctionPart, Rest, Alone, Run}
-use Rattle.surface_syntax.specs.Pass.{Parsing, ◌>>=◌, refuse, plain, parse_bound, parse_define}
+use Rattle.form_table.specs.Marked.{Sexpr, Sexprs, list, end, ◌▹◌, place}
+use Rattle.form_table.specs.Walking.{is_define_at, binder}
+use Rattle.form_table.specs.TopWalk.{run_for}
+use Rattle.derived_forms.specs.Expansion.{Part, ExprPart, ValuePart, FunctionPart, Rest, Alone, Run}
+use Rattle.form_table.specs.Pass.{Parsing, ◌>>=◌, refuse, plain, parse_bound, parse_define}
 use Rattle.surface_trees.specs.Views.{written_of, expr_of, lambda_of, letrecs_of}
 use Rattle.surface_syntax.specs.Parts.{typed_name}
 

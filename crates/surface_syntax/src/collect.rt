@@ -5,7 +5,7 @@ ghost use Rattle.surface_trees.specs.Trees.{NoExprs, NoLets, NoLetrecs};
 ghost use Rattle.surface_trees.specs.Views.{exprs_of, lets_of, letrecs_of};
 ghost use Rattle.surface_syntax.specs.Parts.{exprs_before, lets_before, letrecs_before};
 
-use crate::derived::{bound_first, cons, member_first};
+use derived_forms::nodes::{bound_first, cons, member_first};
 use grift_base::lists::OutOfMemory;
 use std::alloc::Global;
 use surface_trees::exprs::{Binding, Bindings, Expr, ExprList, Member, Members};

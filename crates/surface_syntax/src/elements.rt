@@ -1,18 +1,18 @@
 // What the elements of a form are, before any of them is read.
-#![tactic(auto, using(crate::proofs::Steps::list_steps), unfolding(crate::specs::Walking::followed_by))]
+#![tactic(auto, using(form_table::proofs::Public::list_steps), unfolding(form_table::specs::Walking::followed_by))]
 
 ghost use Rattle.std.specs.Prelude.{◌≡◌, ◌<◌, IfOk, IfSome};
 ghost use Rattle.std.specs.Option.{option_map};
 ghost use Rattle.sexpr_reader.specs.declared.sexps.Sexp.{size-Sexp};
 ghost use Rattle.sexpr_reader.specs.declared.sexps.SexpList.{size-SexpList};
 ghost use Rattle.sexpr_reader.specs.View.{datum_of, datums_of};
-ghost use Rattle.surface_syntax.specs.Marked.{marked, all_marked};
-ghost use Rattle.surface_syntax.specs.TopWalk.{has_body};
+ghost use Rattle.form_table.specs.Marked.{marked, all_marked};
+ghost use Rattle.form_table.specs.TopWalk.{has_body};
 ghost use Rattle.surface_syntax.specs.Elements.{elements, two_of, three_of, range_parts, names_and_body, repeat_parts};
 ghost use Rattle.surface_syntax.specs.Elements.{bound_parts, lambda_parts, typed_body, behind_lambda};
-ghost use Rattle.surface_syntax.specs.Claims.{Answers};
+ghost use Rattle.form_table.specs.Claims.{Answers};
 
-use crate::lists::{bad_form, is_colon_at, is_lambda_at, some};
+use form_table::lists::{bad_form, is_colon_at, is_lambda_at, some};
 use grift_base::places::Pos;
 use grift_base::refusals::FrontFault;
 use sexpr_reader::sexps::{Sexp, SexpList, SexpNode};

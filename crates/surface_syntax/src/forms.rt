@@ -4,35 +4,36 @@
 ghost use Rattle.std.specs.Prelude.{◌≡◌, ◌++◌, ◌∷◌, [], IfOk};
 ghost use Rattle.sexpr_reader.specs.View.{datum_of, datums_of};
 ghost use Rattle.surface_trees.specs.declared.names.Ident.TheVariants.{Source};
-ghost use Rattle.surface_syntax.specs.Marked.{marked, all_marked, marked_symbol};
-ghost use Rattle.surface_syntax.specs.Words.{mark_of};
-ghost use Rattle.surface_syntax.specs.Pass.{parse, parse_list, parse_each, parse_within, parse_binding, parse_lets};
-ghost use Rattle.surface_syntax.specs.Pass.{parse_member, parse_lambda_form, parse_letrecs, parse_range};
-ghost use Rattle.surface_trees.specs.Views.{params_of, source_of, expr_of, exprs_of, lets_of, letrecs_of};
-ghost use Rattle.surface_trees.specs.Views.{lambda_of};
-ghost use Rattle.surface_syntax.specs.Parts.{parse_call, parse_behind, part_number, range_of, name_of_binding};
-ghost use Rattle.surface_syntax.specs.Parts.{bound_of, name_of_member, member_of, in_box};
+ghost use Rattle.form_table.specs.Marked.{marked, all_marked, marked_symbol};
+ghost use Rattle.form_table.specs.Words.{mark_of};
+ghost use Rattle.form_table.specs.Pass.{parse, parse_list, parse_each, parse_within, parse_binding, parse_lets};
+ghost use Rattle.form_table.specs.Pass.{parse_member, parse_lambda_form, parse_letrecs, parse_range};
+ghost use Rattle.surface_trees.specs.Views.{params_of, source_of, expr_of, exprs_of, lets_of, letrecs_of, lambda_of};
+ghost use Rattle.surface_trees.specs.Views.{name_of_binding, name_of_member};
+ghost use Rattle.surface_syntax.specs.Parts.{parse_call, parse_behind, part_number, range_of, bound_of, member_of};
+ghost use Rattle.surface_syntax.specs.Parts.{in_box};
 ghost use Rattle.surface_syntax.specs.Forms.{let_of, letrec_of, if_of, ascribed, ascription_of, projected};
 ghost use Rattle.surface_syntax.specs.Forms.{projection_of, applied_of, parse_operands, repeat_form_of, headed_of};
 ghost use Rattle.surface_syntax.specs.Forms.{lambda_from};
-ghost use Rattle.surface_syntax.specs.Claims.{Answers, Parses};
+ghost use Rattle.form_table.specs.Claims.{Answers, Parses};
 
 use crate::collect::{binding_list, expr_list, member_list, push};
-use crate::derived::{
-    Range, ascription_at, binding_of, called, cons, function_at, if_at, integer_at, lambda_at,
-    let_at, letrec_at, member_of, part_at, source_at, truth_at, unit_at,
-};
 use crate::elements::{
     behind_lambda, lambda_parts, names_and_body, range_parts, repeat_parts, three_of, two_of,
     typed_body,
 };
-use crate::lists::{bad_form, refused, word_at};
 use crate::operands::{Head, applied_to, room};
 use crate::params::{bound_to, only_name, param_list};
 use crate::repeats::{counted_repeat, gathered_repeat};
-use crate::scopes::Scope;
 use crate::type_forms::type_expr;
-use crate::words::{Mark, Word, mark_of};
+use derived_forms::loops::Range;
+use derived_forms::nodes::{
+    ascription_at, binding_of, called, cons, function_at, if_at, integer_at, lambda_at, let_at,
+    letrec_at, member_of, part_at, source_at, truth_at, unit_at,
+};
+use form_table::lists::{bad_form, refused, word_at};
+use form_table::scopes::Scope;
+use form_table::words::{Mark, Word, mark_of};
 use grift_base::lists::{Name, OutOfMemory};
 use grift_base::places::Pos;
 use grift_base::refusals::{FrontFault, RefusalKind};
@@ -66,7 +67,7 @@ fn part_number(sexp: &Sexp) -> Result<i64, FrontFault>
 }
 
 // The part of a tuple with this number.
-#[tactic(auto, using(crate::proofs::Steps::walk_steps), unfolding(crate::specs::Walking::followed_by))]
+#[tactic(auto, using(form_table::proofs::Public::walk_steps), unfolding(form_table::specs::Walking::followed_by))]
 fn projected(
     alloc: Global,
     pos: Pos,
@@ -80,7 +81,7 @@ fn projected(
 }
 
 // An expression at the type that this writes.
-#[tactic(auto, using(crate::proofs::Steps::walk_steps), unfolding(crate::specs::Walking::followed_by))]
+#[tactic(auto, using(form_table::proofs::Public::walk_steps), unfolding(form_table::specs::Walking::followed_by))]
 fn ascribed(
     alloc: Global,
     pos: Pos,

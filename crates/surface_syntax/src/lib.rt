@@ -4,26 +4,21 @@
 ghost use Rattle.std.specs.Prelude.{◌≡◌, ◌≤◌, ◌+◌, ◌*◌, IfOk, IfErr};
 ghost use Rattle.sexpr_reader.specs.Datum.{depth_of};
 ghost use Rattle.sexpr_reader.specs.View.{datums_of};
-ghost use Rattle.surface_syntax.specs.Marked.{all_marked, how_many};
+ghost use Rattle.form_table.specs.Marked.{all_marked, how_many};
 ghost use Rattle.surface_trees.specs.Views.{expr_of};
-ghost use Rattle.surface_syntax.specs.Depth.{depth};
-ghost use Rattle.surface_syntax.specs.Freshness.{BindsFreshOnce};
-ghost use Rattle.surface_syntax.specs.Programs.{AreExpr, IsFault};
+ghost use Rattle.form_table.specs.Depth.{depth};
+ghost use Rattle.form_table.specs.Freshness.{BindsFreshOnce};
+ghost use Rattle.form_table.specs.Programs.{AreExpr, IsFault};
 
 mod collect;
-mod derived;
 mod elements;
 mod forms;
-pub mod laws;
-mod lists;
 mod operands;
 mod params;
 mod programs;
 mod repeats;
-mod scopes;
 mod tops;
 mod type_forms;
-pub mod words;
 
 use crate::programs::whole;
 use crate::tops::parts;

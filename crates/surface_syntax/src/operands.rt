@@ -1,16 +1,16 @@
 // Forms that are a head and operands: how many there may be, and what they are then.
-#![tactic(auto, using(crate::proofs::Steps::walk_steps), unfolding(crate::specs::Walking::followed_by))]
+#![tactic(auto, using(form_table::proofs::Public::walk_steps), unfolding(form_table::specs::Walking::followed_by))]
 
 ghost use Rattle.std.specs.Prelude.{◌≡◌, IfOk};
 ghost use Rattle.sexpr_reader.specs.View.{datums_of};
-ghost use Rattle.surface_syntax.specs.Marked.{all_marked};
+ghost use Rattle.form_table.specs.Marked.{all_marked};
 ghost use Rattle.surface_syntax.specs.Forms.{room_of, applied_to};
 ghost use Rattle.surface_trees.specs.Views.{expr_of, exprs_of};
-ghost use Rattle.surface_syntax.specs.Claims.{Answers};
+ghost use Rattle.form_table.specs.Claims.{Answers};
 
-use crate::derived::{chain, operator_at, sequence_at, tuple_at};
-use crate::lists::{bad_form, has_length, some};
-use crate::words::operand_count;
+use derived_forms::nodes::{chain, operator_at, sequence_at, tuple_at};
+use form_table::lists::{bad_form, has_length, some};
+use form_table::words::operand_count;
 use grift_base::lists::OutOfMemory;
 use grift_base::operators::PrimOp;
 use grift_base::places::Pos;

@@ -1,22 +1,22 @@
 // Parameters from s-expressions.
-#![tactic(auto, using(crate::proofs::ParamRows::param_steps), unfolding(crate::specs::Walking::followed_by))]
+#![tactic(auto, using(crate::proofs::ParamRows::param_steps), unfolding(form_table::specs::Walking::followed_by))]
 
 ghost use Rattle.std.specs.Prelude.{◌≡◌, ◌<◌, ◌++◌, ◌∷◌, [], IfOk};
 ghost use Rattle.sexpr_reader.specs.declared.sexps.Sexp.{size-Sexp};
 ghost use Rattle.sexpr_reader.specs.View.{datum_of, datums_of};
-ghost use Rattle.surface_syntax.specs.Marked.{marked, all_marked, list as list_at};
-ghost use Rattle.surface_syntax.specs.Walking.{binder};
-ghost use Rattle.surface_syntax.specs.Walk.{plain_param, walk_param, walk_params, walk_param_list};
+ghost use Rattle.form_table.specs.Marked.{marked, all_marked, list as list_at};
+ghost use Rattle.form_table.specs.Walking.{binder};
+ghost use Rattle.form_table.specs.Walk.{plain_param, walk_param, walk_params, walk_param_list};
 ghost use Rattle.std.specs.Option.{option_map};
 ghost use Rattle.surface_syntax.specs.Forms.{written_type, bound_name, bound_to};
 ghost use Rattle.surface_trees.specs.Views.{type_of, written_of, source_of, named_param_of, params_of};
 ghost use Rattle.surface_syntax.specs.Parts.{typed_name};
-ghost use Rattle.surface_syntax.specs.Claims.{Answers};
+ghost use Rattle.form_table.specs.Claims.{Answers};
 
 use crate::elements::{bound_parts, three_of};
-use crate::lists::{bad_form, binder, colon, refused};
-use crate::scopes::Scope;
 use crate::type_forms::type_expr;
+use form_table::lists::{bad_form, binder, colon, refused};
+use form_table::scopes::Scope;
 use grift_base::lists::Name;
 use grift_base::places::Pos;
 use grift_base::refusals::{FrontFault, RefusalKind};

@@ -2,18 +2,17 @@
 
 ghost use Rattle.std.specs.Prelude.{◌≡◌, map, IfOk};
 ghost use Rattle.surface_trees.specs.Trees.{ExprAt, UnitNode, LetNode, LetThen, NoLets};
-ghost use Rattle.surface_syntax.specs.Expansion.{ExprPart, Alone, closed, one_expr, with_function};
-ghost use Rattle.surface_syntax.specs.Expansion.{before, ending, whole};
-ghost use Rattle.surface_trees.specs.Views.{expr_of};
-ghost use Rattle.surface_syntax.specs.Parts.{name_of_member, type_of_member, fun_of_member, name_of_binding};
-ghost use Rattle.surface_syntax.specs.Parts.{type_of_binding, value_of_binding};
+ghost use Rattle.derived_forms.specs.Expansion.{ExprPart, Alone, closed, one_expr, with_function, before, ending};
+ghost use Rattle.derived_forms.specs.Expansion.{whole};
+ghost use Rattle.surface_trees.specs.Views.{expr_of, name_of_member, type_of_member, fun_of_member, name_of_binding};
+ghost use Rattle.surface_trees.specs.Views.{type_of_binding, value_of_binding};
 ghost use Rattle.surface_syntax.specs.TopParts.{part_of, rest_of};
 
-use crate::derived::{
+use crate::tops::Part;
+use derived_forms::nodes::{
     binding_of, bound_first, let_at, letrec_at, member_first, member_of, one, sequence_at, two,
     unit_at,
 };
-use crate::tops::Part;
 use grift_base::lists::OutOfMemory;
 use grift_base::made::{beside, both};
 use grift_base::places::Pos;

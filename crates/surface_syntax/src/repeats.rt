@@ -1,12 +1,11 @@
 // Loops with fresh names of their own. `names` counts the fresh names so far.
 
-ghost use Rattle.std.specs.Prelude.{◌≡◌, ◌+◌, ◌∷◌, [], IfOk};
+ghost use Rattle.std.specs.Prelude.{◌≡◌, ◌+◌, IfOk};
 ghost use Rattle.surface_trees.specs.declared.names.Ident.TheVariants.{Fresh};
-ghost use Rattle.surface_syntax.specs.Expansion.{loop_names, repeat_of, repeat_into_of, type_or_dyn};
-ghost use Rattle.surface_trees.specs.Views.{expr_of, source_of};
-ghost use Rattle.surface_syntax.specs.Parts.{name_of_binding, type_of_binding, value_of_binding};
+ghost use Rattle.derived_forms.specs.Expansion.{loop_names, repeat_of, repeat_into_of, type_or_dyn};
+ghost use Rattle.surface_trees.specs.Views.{expr_of, source_of, name_of_binding, type_of_binding, value_of_binding};
 
-use crate::derived::{LoopNames, Range, counted_loop, gathering_loop};
+use derived_forms::loops::{LoopNames, Range, counted_loop, gathering_loop};
 use grift_base::lists::OutOfMemory;
 use grift_base::places::Pos;
 use std::alloc::Global;

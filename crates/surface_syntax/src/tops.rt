@@ -1,22 +1,22 @@
 // Forms of programs from s-expressions. `names` counts the fresh names so far.
-#![tactic(auto, using(crate::proofs::Rows::top), unfolding(crate::specs::Pass::then_with, crate::specs::Pass::paired))]
+#![tactic(auto, using(crate::proofs::Rows::top), unfolding(form_table::specs::Pass::then_with, form_table::specs::Pass::paired))]
 
 ghost use Rattle.std.specs.Prelude.{◌≡◌, ◌≤◌, ◌++◌, ◌∷◌, [], List, ℕ, length, map, IfOk};
 ghost use Rattle.sexpr_reader.specs.View.{datum_of, datums_of};
-ghost use Rattle.surface_syntax.specs.Marked.{marked, all_marked, list as list_at, ◌▹◌, how_many};
-ghost use Rattle.surface_syntax.specs.TopWalk.{run_for};
-ghost use Rattle.surface_syntax.specs.TopTable.{is_lambda_form};
-ghost use Rattle.surface_syntax.specs.Pass.{parse_bound, parse_define, parse_top, parse_tops, run_behind};
+ghost use Rattle.form_table.specs.Marked.{marked, all_marked, list as list_at, ◌▹◌, how_many};
+ghost use Rattle.form_table.specs.TopWalk.{run_for};
+ghost use Rattle.form_table.specs.TopTable.{is_lambda_form};
+ghost use Rattle.form_table.specs.Pass.{parse_bound, parse_define, parse_top, parse_tops, run_behind};
 ghost use Rattle.surface_trees.specs.Views.{written_of};
 ghost use Rattle.surface_syntax.specs.TopParts.{part_of, parse_named, is_definition, parse_definition, Grows};
-ghost use Rattle.surface_syntax.specs.Claims.{Parses};
+ghost use Rattle.form_table.specs.Claims.{Parses};
 
 use crate::collect::push;
 use crate::elements::has_body;
 use crate::forms::{expr, function, lambda_with};
-use crate::lists::{bad_form, binder, is_define_at, is_lambda_at, refused};
 use crate::params::{params, typed_name};
-use crate::scopes::Scope;
+use form_table::lists::{bad_form, binder, is_define_at, is_lambda_at, refused};
+use form_table::scopes::Scope;
 use grift_base::lists::Name;
 use grift_base::places::Pos;
 use grift_base::refusals::{FrontFault, RefusalKind};

@@ -1,20 +1,20 @@
 // Types from s-expressions.
-#![tactic(auto, using(crate::proofs::Steps::walk_steps), unfolding(crate::specs::Walking::followed_by))]
+#![tactic(auto, using(form_table::proofs::Public::walk_steps), unfolding(form_table::specs::Walking::followed_by))]
 
 ghost use Rattle.std.specs.Prelude.{◌≡◌};
 ghost use Rattle.sexpr_reader.specs.View.{datum_of, datums_of};
-ghost use Rattle.surface_syntax.specs.Marked.{marked, all_marked, marked_symbol, list as list_at};
-ghost use Rattle.surface_syntax.specs.Words.{mark_of};
-ghost use Rattle.surface_syntax.specs.Walk.{walk_type, walk_only, walk_types, walk_signature};
+ghost use Rattle.form_table.specs.Marked.{marked, all_marked, marked_symbol, list as list_at};
+ghost use Rattle.form_table.specs.Words.{mark_of};
+ghost use Rattle.form_table.specs.Walk.{walk_type, walk_only, walk_types, walk_signature};
 ghost use Rattle.type_graph.specs.Rows.{row_of};
 ghost use Rattle.surface_trees.specs.Trees.{TypeAt, BaseType};
 ghost use Rattle.surface_trees.specs.Views.{type_of, type_node_of, types_of};
 ghost use Rattle.surface_syntax.specs.declared.type_forms.TypeHead.TheVariants.{Other};
 ghost use Rattle.surface_syntax.specs.Parts.{signature_of, head_of_word, type_head, headed_type};
-ghost use Rattle.surface_syntax.specs.Claims.{Answers};
+ghost use Rattle.form_table.specs.Claims.{Answers};
 
-use crate::lists::{bad_form, is_arrow, is_arrow_at, refused};
-use crate::words::{Mark, TypeWord, mark_of};
+use form_table::lists::{bad_form, is_arrow, is_arrow_at, refused};
+use form_table::words::{Mark, TypeWord, mark_of};
 use grift_base::lists::Name;
 use grift_base::made::boxed;
 use grift_base::places::Pos;
@@ -47,17 +47,16 @@ enum TypeHead {
     Other,
 }
 
-impl TypeWord {
-    fn head(self) -> TypeHead
-        ensures { result ≡ head_of_word self }
-    {
-        match self {
-            TypeWord::Tuple => TypeHead::Tuple,
-            TypeWord::Ref => TypeHead::Ref,
-            TypeWord::Vect => TypeHead::Vect,
-            TypeWord::Rec => TypeHead::Rec,
-            TypeWord::Int | TypeWord::Bool | TypeWord::Unit | TypeWord::Dyn => TypeHead::Other,
-        }
+// Which type a list writes that begins with this word.
+fn head_of(word: TypeWord) -> TypeHead
+    ensures { result ≡ head_of_word word }
+{
+    match word {
+        TypeWord::Tuple => TypeHead::Tuple,
+        TypeWord::Ref => TypeHead::Ref,
+        TypeWord::Vect => TypeHead::Vect,
+        TypeWord::Rec => TypeHead::Rec,
+        TypeWord::Int | TypeWord::Bool | TypeWord::Unit | TypeWord::Dyn => TypeHead::Other,
     }
 }
 
@@ -66,7 +65,7 @@ fn type_head(sexp: &Sexp) -> TypeHead
 {
     match &sexp.node {
         SexpNode::Symbol(name) => match mark_of(name.as_slice()) {
-            Mark::Free(Some(word)) => word.head(),
+            Mark::Free(Some(word)) => head_of(word),
             Mark::Free(None) | Mark::Reserved(_) => TypeHead::Other,
         },
         SexpNode::Int(_) | SexpNode::Bool(_) | SexpNode::List(_) => TypeHead::Other,

@@ -22,8 +22,10 @@ use Rattle.surface_trees.specs.declared.exprs.ExprNode.TheVariants.{Prim as Prim
 use Rattle.surface_trees.specs.declared.exprs.LambdaExpr.{LambdaExpr as RustLambda, out-LambdaExpr}
 use Rattle.surface_trees.specs.declared.exprs.ExprList.{ExprList as RustExprs}
 use Rattle.surface_trees.specs.declared.exprs.ExprList.TheVariants.{Nil as NoRustExprs, Cons' as RustExprThen}
+use Rattle.surface_trees.specs.declared.exprs.Binding.{Binding as RustBinding, out-Binding}
 use Rattle.surface_trees.specs.declared.exprs.Bindings.{Bindings as RustBindings}
 use Rattle.surface_trees.specs.declared.exprs.Bindings.TheVariants.{Nil as NoRustBindings, Cons' as RustBindingThen}
+use Rattle.surface_trees.specs.declared.exprs.Member.{Member as RustMember, out-Member}
 use Rattle.surface_trees.specs.declared.exprs.Members.{Members as RustMembers}
 use Rattle.surface_trees.specs.declared.exprs.Members.TheVariants.{Nil as NoRustMembers, Cons' as RustMemberThen}
 use Rattle.surface_trees.specs.Trees.{TypeExpr, TypeNode, TypeAt, BaseType, FunType, TupleType, RefType, VectType}
@@ -109,3 +111,22 @@ abbrev pub lambda_of : RustLambda → LambdaExpr
 lambda_of l =
     LambdaAt (out-LambdaExpr l).pos (params_of (out-LambdaExpr l).params) (written_of (out-LambdaExpr l).result)
     (exprs_of (out-LambdaExpr l).body)
+
+-- what a binding or a member of a group has: its name, its written type, and its value or function
+abbrev pub name_of_binding : RustBinding → Ident
+name_of_binding b = (out-Binding b).name
+
+abbrev pub type_of_binding : RustBinding → Option TypeExpr
+type_of_binding b = written_of (out-Binding b).ty
+
+abbrev pub value_of_binding : RustBinding → Expr
+value_of_binding b = expr_of (out-Binding b).value
+
+abbrev pub name_of_member : RustMember → Ident
+name_of_member m = (out-Member m).name
+
+abbrev pub type_of_member : RustMember → Option TypeExpr
+type_of_member m = written_of (out-Member m).ty
+
+abbrev pub fun_of_member : RustMember → LambdaExpr
+fun_of_member m = lambda_of (out-Member m).fun

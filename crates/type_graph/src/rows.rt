@@ -10,7 +10,7 @@ use std::alloc::Global;
 pub type TypeIds = Items<TypeId>;
 
 /// A type: its constructor, and the places of its parts in the table that the row stands in.
-#[derive(PartialEq, Eq, Hash, Drop, Debug)]
+#[derive(PartialEq, Eq, Hash, Drop)]
 pub enum Row {
     /// 64-bit integers.
     Int,

@@ -23,7 +23,7 @@ pub const MOST_HEIGHT: u32 = 65534;
 pub const SIZE_SHOWN: u64 = 1001;
 
 /// What is kept beside a row, so that it is one look-up.
-#[derive(Clone, Copy, Debug)]
+#[derive(Clone, Copy)]
 pub struct Measure {
     height: u32,
     size: u64,

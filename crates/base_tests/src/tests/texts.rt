@@ -238,19 +238,3 @@ fn long_lists_are_read_and_dropped(rt: HostRuntime) -> Result<(), Fail> {
     assert!(rt; symbols_read(rt.alloc())? == 131068);
     Ok(())
 }
-
-// Whether this is written of the s-expressions of a text.
-fn is_written(alloc: Global, text: &[u8], expected: &str) -> Result<bool, Fail> {
-    let list = reading(alloc, text)?;
-    let written = format!(in alloc; "{list:?}")?;
-    Ok(written.as_str() == expected)
-}
-
-const WRITTEN: &str = "[Sexp { pos: Pos { line: 1, col: 1 }, node: Bool(true) }, \
-    Sexp { pos: Pos { line: 1, col: 4 }, node: Bool(false) }]";
-
-#[test]
-fn s_expressions_are_written_for_debugging(rt: HostRuntime) -> Result<(), Fail> {
-    assert!(rt; is_written(rt.alloc(), b"#t #f", WRITTEN)?);
-    Ok(())
-}

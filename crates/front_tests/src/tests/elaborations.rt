@@ -1,9 +1,9 @@
 // Texts that are read, parsed and elaborated: the type of a program and how many casts it has, or its first refusal.
 
-use cast_insert::casts::CastEntry;
 use front_end::{Elaborated, elaborate_text};
 use grift_base::places::{LabelId, Pos, TypeId};
 use grift_base::refusals::{FrontFault, Refusal};
+use insert_steps::casts::CastEntry;
 use std::alloc::Global;
 use std::fmt::Write;
 use std::process::Abort;

@@ -1,5 +1,6 @@
 // Texts that are read and parsed: refusals with their kinds and places, and programs as they are shown.
 
+use form_table::words::operator_text;
 use grift_base::lists::Bytes;
 use grift_base::places::Pos;
 use grift_base::refusals::{FrontFault, Refusal, RefusalKind};
@@ -8,7 +9,6 @@ use std::alloc::Global;
 use std::fmt::Write;
 use std::process::Abort;
 use surface_syntax::parse_program;
-use surface_syntax::words::operator_text;
 use surface_trees::exprs::{Bindings, Expr, ExprList, ExprNode, LambdaExpr, Members, Program};
 use surface_trees::names::Ident;
 use surface_trees::types::{Params, TypeExpr, TypeExprs, TypeNode};

@@ -1,7 +1,7 @@
 // The words of the language.
 
+use form_table::words::{Mark, TypeWord, Word, mark_of, operand_count, operator_text};
 use grift_base::operators::PrimOp;
-use surface_syntax::words::{Mark, TypeWord, Word, mark_of, operand_count, operator_text};
 
 const MARKS: &[(&str, Mark)] = &[
     ("lambda", Mark::Reserved(Word::Lambda)),

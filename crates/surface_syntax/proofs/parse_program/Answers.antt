@@ -1,10 +1,10 @@
 use Rattle.std.proofs.Common.{map, refl, ap, sym, ◌∙◌, subst, arith}
 use Rattle.std.proofs.lemmas.Result.{err_from_is_err_and}
 use Rattle.sexpr_reader.specs.View.{datums_of}
-use Rattle.surface_syntax.specs.Marked.{all_marked}
+use Rattle.form_table.specs.Marked.{all_marked}
 use Rattle.surface_trees.specs.Views.{expr_of}
 use Rattle.surface_syntax.specs.TopParts.{part_of}
-use Rattle.surface_syntax.specs.Programs.{AreExpr}
+use Rattle.form_table.specs.Programs.{AreExpr}
 use Rattle.surface_syntax.proofs.Answered.{answered, fault_given, is_shallow, is_fresh_once}
 use Rattle.surface_syntax.proofs.parse_program.Goals as goal
 

@@ -1,6 +1,6 @@
 use Rattle.std.proofs.Common.{◌≡◌, ◌<◌, ◌↔◌, ℕ, List, length, sym, ap, ◌∙◌, refl, subst, arith}
 use Rattle.std.specs.Prelude.{Contains, replicate, true}
-use Rattle.cast_insert.specs.Views.{entries_of}
+use Rattle.insert_steps.specs.Views.{entries_of}
 use Rattle.blame_audit.specs.Marks.{marked}
 use Rattle.blame_audit.specs.SafeLabels.{IsSafe, safe_labels}
 use Rattle.blame_audit.specs.Views.{labels_of}

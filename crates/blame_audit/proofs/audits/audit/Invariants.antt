@@ -1,5 +1,5 @@
 use Rattle.std.proofs.Common.{◌≡◌}
-use Rattle.cast_insert.specs.Views.{entries_of}
+use Rattle.insert_steps.specs.Views.{entries_of}
 use Rattle.blame_audit.specs.SafeLabels.{safe_labels}
 use Rattle.blame_audit.specs.Views.{labels_of}
 use Rattle.blame_audit.proofs.audits.audit.Given as goal

@@ -1,7 +1,7 @@
 use Rattle.std.proofs.Common.{ℕ, true, length, take, replicate, sym, ap, ◌∙◌, subst, None, get_or, List, rules}
-use Rattle.cast_insert.specs.declared.casts.CastEntry.{CastEntry}
-use Rattle.cast_insert.specs.declared.casts.CastEntry.TheVariants.{Cast}
-use Rattle.cast_insert.specs.Views.{entries_of, entry_of}
+use Rattle.insert_steps.specs.declared.casts.CastEntry.{CastEntry}
+use Rattle.insert_steps.specs.declared.casts.CastEntry.TheVariants.{Cast}
+use Rattle.insert_steps.specs.Views.{entries_of, entry_of}
 use Rattle.blame_audit.specs.SafeLabels.{spoils}
 use Rattle.blame_audit.specs.Marks.{NamesKnown, spoil}
 use Rattle.blame_audit.proofs.Marks.{entry_at, marks_length, marked_more}

@@ -1,5 +1,5 @@
 use Rattle.std.proofs.Common.{◌≡◌, true, take, replicate}
-use Rattle.cast_insert.specs.Views.{entries_of}
+use Rattle.insert_steps.specs.Views.{entries_of}
 use Rattle.blame_audit.specs.Known.{AreUp}
 use Rattle.blame_audit.specs.Marks.{marked}
 use Rattle.blame_audit.proofs.audits.marks_of.Given as goal

@@ -13,7 +13,7 @@ use Rattle.calc_stepper.proofs.Stepping.{part_answers, prim_part_steps, proj_dyn
 use Rattle.calc_stepper.proofs.Stepping.{seq_part_steps, terms_answer, tuple_part_steps}
 use Rattle.calc_stepper.proofs.Stepping.{arrives, comes_to_end, first_bound_steps, first_steps, goes_along, goes_past}
 use Rattle.calc_stepper.proofs.Stepping.{goes_past_bound}
-use Rattle.calc_stepper.specs.Lists.{bindings_onto, terms_onto}
+use Rattle.core_terms.specs.Lists.{bindings_onto, terms_onto}
 use Rattle.calc_stepper.proofs.steps.+stepping.Goals as goal
 
 pub step_term-returns-in-Let-clause-moves : goal.step_term-returns-in-Let-clause-moves
@@ -157,6 +157,10 @@ step_terms-returns-then-not-is_value-clause-moves t c =
     (ap (λ x. is_some (as_value (term_of x))) (c.deref_mut.ensures.value ∙ sym c.deref.ensures)
     ∙ sym c.is_value.ensures ∙ c.if-not-is_value.true))
     c.loop-left.invariant.step_is c.terms_onto.ensures c.step_term-moved.ensures.moves
+
+-- (an edit turns this function: with the answer here its refusal takes one run of the prover, and not two)
+pub step_terms-loop-left-init : goal.step_terms-loop-left-init
+step_terms-loop-left-init t c = search rules
 
 pub step_terms-loop-left-preserved : goal.step_terms-loop-left-preserved
 step_terms-loop-left-preserved t c =

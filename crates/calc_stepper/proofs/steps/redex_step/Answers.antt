@@ -1,8 +1,8 @@
 use Rattle.std.proofs.Common.{◌∙◌, refl, ap}
 use Rattle.core_calc.specs.States.{store_of}
 use Rattle.core_calc.specs.Views.{term_of}
-use Rattle.calc_stepper.specs.Redexes.{call_redex, cast_redex, enter_redex, group_redex, if_redex, lambda_redex}
-use Rattle.calc_stepper.specs.Redexes.{let_redex, prim_redex, proj_dyn_redex, proj_redex, seq_redex, tuple_redex}
+use Rattle.core_redexes.specs.Redexes.{call_redex, cast_redex, enter_redex, group_redex, if_redex, lambda_redex}
+use Rattle.core_redexes.specs.Redexes.{let_redex, prim_redex, proj_dyn_redex, proj_redex, seq_redex, tuple_redex}
 use Rattle.calc_stepper.proofs.Stepping.{answers, answers_here, answers_now, step_of_form}
 use Rattle.calc_stepper.proofs.steps.redex_step.Goals as goal
 

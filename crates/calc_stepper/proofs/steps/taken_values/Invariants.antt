@@ -1,7 +1,7 @@
 use Rattle.std.proofs.Common.{◌≡◌}
 use Rattle.core_calc.specs.Views.{terms_of, values_of}
-use Rattle.calc_stepper.specs.Lists.{values_onto}
-use Rattle.calc_stepper.specs.Taken.{taken_values}
+use Rattle.core_terms.specs.Lists.{values_onto}
+use Rattle.core_redexes.specs.Taken.{taken_values}
 use Rattle.calc_stepper.proofs.steps.taken_values.Given as goal
 
 abbrev pub invariant-loop-left : goal.invariant-loop-left

@@ -7,50 +7,52 @@ use Rattle.surface_trees.specs.Trees.{LambdaExpr, LetrecMembers, TypeExpr, Expr,
 use Rattle.surface_trees.specs.Trees.{LetThen, LetrecThen, AscribeNode, CallNode, LetNode, LetrecNode, BeginNode}
 use Rattle.surface_trees.specs.Trees.{PrimNode, TupleNode}
 use Rattle.cast_insert.specs.declared.heads.Head.{Head as RustHead}
-use Rattle.cast_insert.specs.Bodies.{bindings_onto, members_onto, body_of, bound_name_in, bound_of, bound_value}
+use Rattle.cast_insert.specs.Bodies.{body_of, bound_name_in, bound_of, bound_value}
 use Rattle.cast_insert.specs.Bodies.{gathered_of, sequence_of, type_in, value_in}
-use Rattle.cast_insert.specs.Elaboration.{Bound, MemberBody, Operands, Sequence, elaborate_bindings, elaborate_member}
-use Rattle.cast_insert.specs.Elaboration.{elaborate_members, elaborate, elaborate_sequence, elaborate_node}
-use Rattle.cast_insert.specs.Elaboration.{elaborate_each, elaborate_operands}
-use Rattle.cast_insert.specs.Environments.{Environment, Head, plain}
+use Rattle.cast_rules.specs.Elaboration.{Bound, MemberBody, Operands, Sequence, elaborate_bindings, elaborate_member}
+use Rattle.cast_rules.specs.Elaboration.{elaborate_members, elaborate, elaborate_sequence, elaborate_node}
+use Rattle.cast_rules.specs.Elaboration.{elaborate_each, elaborate_operands}
+use Rattle.cast_rules.specs.Environments.{Environment, Head, plain}
 use Rattle.cast_insert.specs.Heads.{head_seen, heads_seen}
-use Rattle.cast_insert.specs.Making.{Work, Makes, Made, Refuses, Typed, then_make}
+use Rattle.cast_rules.specs.Making.{Work, Makes, Made, Refuses, Typed, then_make}
 use Rattle.cast_insert.proofs.Loops.{bound_behind, made_as_twice, members_behind, members_done, members_refused}
-use Rattle.cast_insert.proofs.Loops.{sequence_behind, failed_as, sequence_refused, sequence_last, sequence_more}
-use Rattle.cast_insert.proofs.Loops.{bindings_more, if_first, if_second, if_joined, failed_first, made_first}
-use Rattle.cast_insert.proofs.Loops.{made_then, bindings_refused, bindings_done}
+use Rattle.cast_insert.proofs.Loops.{sequence_behind, sequence_refused, sequence_last, sequence_more}
+use Rattle.cast_insert.proofs.Loops.{bindings_more, if_first, if_second, if_joined}
+use Rattle.cast_insert.proofs.Loops.{bindings_refused, bindings_done}
 use Rattle.cast_insert.proofs.Loops.{members_none}
 use Rattle.surface_trees.specs.Views.{expr_of, exprs_of, lambda_of, lets_of, letrecs_of, written_of, type_of}
 use Rattle.surface_trees.specs.declared.exprs.ExprList.{the_lemmas as list_lemmas}
-use Rattle.cast_insert.specs.Seen.{held_of, operand_seen}
-use Rattle.cast_insert.specs.declared.operands.Operand.{Operand}
+use Rattle.insert_steps.specs.Seen.{held_of, operand_seen}
+use Rattle.insert_steps.specs.declared.operands.Operand.{Operand}
 use Rattle.type_graph.specs.Rows.{places_of}
-use Rattle.cast_insert.specs.Gathered.{given_of, terms_onto}
-use Rattle.cast_insert.specs.Calls.{Given}
+use Rattle.insert_steps.specs.Gathered.{given_of}
+use Rattle.cast_rules.specs.Calls.{Given}
 use Rattle.grift_base.specs.declared.places.TypeId.{TypeId}
-use Rattle.cast_insert.specs.Views.{typed_of, work_of, meaning_seen, place_if, Answers}
-use Rattle.cast_insert.specs.Programs.{AreSources, IsSourceBody, AreSourceBindings, AreSourceMembers, IsSourceNode}
-use Rattle.cast_insert.specs.Programs.{IsSource, IsSourceLambda}
+use Rattle.insert_steps.specs.Views.{typed_of, work_of, meaning_seen, place_if, Answers}
+use Rattle.cast_rules.specs.Programs.{AreSources, IsSourceBody, AreSourceBindings, AreSourceMembers, IsSourceNode}
+use Rattle.cast_rules.specs.Programs.{IsSource, IsSourceLambda}
 use Rattle.std.proofs.lemmas.Result.{IfOk-equal}
-use Rattle.cast_insert.proofs.Room.{body_first, body_rest, grows_last, grows_on, grows_same, may_part_later, on_ok}
-use Rattle.cast_insert.proofs.Room.{part_later, parts_later, parts_then, no_parts}
+use Rattle.cast_rules.proofs.Public.{body_first, body_rest, grows_last, grows_on, grows_same, may_part_later, no_parts}
+use Rattle.cast_rules.proofs.Public.{on_ok, part_later, parts_later, parts_then}
 use Rattle.std.proofs.lemmas.List.{map-append, length-map}
 use Rattle.surface_trees.specs.declared.names.Ident.{Ident}
 use Rattle.surface_trees.specs.declared.exprs.Binding.{the_lemmas as one_binding_lemmas}
 use Rattle.surface_trees.specs.declared.exprs.Bindings.{the_lemmas as binding_lemmas}
 use Rattle.surface_trees.specs.declared.exprs.Member.{out-Member}
 use Rattle.surface_trees.specs.declared.exprs.Members.{the_lemmas as member_lemmas}
-use Rattle.cast_insert.specs.declared.names.Named.{Named}
-use Rattle.cast_insert.specs.Sources.{place_of, how_many}
-use Rattle.cast_insert.specs.Scoped.{env_of}
-use Rattle.cast_insert.proofs.Bodies.{first_split, heads_left, names_left}
+use Rattle.insert_steps.specs.declared.names.Named.{Named}
+use Rattle.cast_rules.specs.Sources.{place_of, how_many}
+use Rattle.insert_steps.specs.Scoped.{env_of}
+use Rattle.cast_insert.proofs.Bodies.{heads_left, names_left}
 use Rattle.std.specs.Prelude.{nat_eq}
 use Rattle.surface_trees.specs.declared.exprs.ExprNode.{the_lemmas as node_lemmas}
 use Rattle.surface_trees.specs.declared.exprs.LambdaExpr.{the_lemmas as lambda_lemmas}
-use Rattle.cast_insert.specs.declared.operands.Operand.TheVariants.{Int as IntOperand}
-use Rattle.cast_insert.specs.Room.{AreParts}
+use Rattle.insert_steps.specs.declared.operands.Operand.TheVariants.{Int as IntOperand}
+use Rattle.cast_rules.specs.Room.{AreParts}
 use Rattle.surface_trees.specs.declared.exprs.Expr.{the_lemmas as expr_lemmas}
 use Rattle.cast_insert.proofs.elaboration.+elaborate.Goals as goal
+use Rattle.insert_steps.specs.Onto.{bindings_onto, members_onto, terms_onto}
+use Rattle.insert_steps.proofs.Public.{failed_as, failed_first, first_split, made_first, made_then}
 
 pub in_order-inside-requires : goal.in_order-inside-requires
 in_order-inside-requires t c =

@@ -4,14 +4,14 @@ use Rattle.core_calc.specs.Terms.{term_list, binding_list, member_list}
 use Rattle.core_calc.specs.Views.{terms_of, bindings_of, members_of}
 use Rattle.surface_trees.specs.Views.{exprs_of, lets_of, letrecs_of}
 use Rattle.surface_trees.specs.declared.exprs.ExprList.{size-ExprList}
-use Rattle.cast_insert.specs.Elaboration.{elaborate_sequence, elaborate_bindings, elaborate_members}
-use Rattle.cast_insert.specs.Programs.{IsSourceBody, AreSourceBindings, AreSourceMembers}
-use Rattle.cast_insert.specs.Environments.{Environment}
-use Rattle.cast_insert.specs.Room.{Grows}
-use Rattle.cast_insert.specs.Views.{work_of}
+use Rattle.cast_rules.specs.Elaboration.{elaborate_sequence, elaborate_bindings, elaborate_members}
+use Rattle.cast_rules.specs.Programs.{IsSourceBody, AreSourceBindings, AreSourceMembers}
+use Rattle.cast_rules.specs.Environments.{Environment}
+use Rattle.cast_rules.specs.Room.{Grows}
+use Rattle.insert_steps.specs.Views.{work_of}
 use Rattle.cast_insert.proofs.Loops.{sequence_behind, bound_behind, members_behind}
 use Rattle.surface_trees.specs.declared.exprs.Bindings.{size-Bindings}
-use Rattle.cast_insert.specs.Scoped.{env_of}
+use Rattle.insert_steps.specs.Scoped.{env_of}
 use Rattle.surface_trees.specs.declared.exprs.Members.{size-Members}
 use Rattle.cast_insert.specs.Heads.{heads_seen}
 use Rattle.cast_insert.proofs.elaboration.+elaborate.Given as goal

@@ -1,8 +1,8 @@
 use Rattle.std.proofs.Common.{ap, sym, ◌∙◌}
-use Rattle.cast_insert.specs.Making.{Typed, cast_if}
-use Rattle.cast_insert.specs.Views.{place_if, work_of}
-use Rattle.cast_insert.proofs.Loops.{made_then}
-use Rattle.cast_insert.proofs.Room.{grows_on, parts_later}
+use Rattle.cast_rules.specs.Making.{Typed, cast_if}
+use Rattle.insert_steps.specs.Views.{place_if, work_of}
+use Rattle.cast_rules.proofs.Public.{grows_on, parts_later}
+use Rattle.insert_steps.proofs.Public.{made_then}
 use Rattle.cast_insert.proofs.elaboration.closed.Goals as goal
 
 pub function-requires-clause-types : goal.function-requires-clause-types

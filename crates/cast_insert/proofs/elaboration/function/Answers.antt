@@ -6,10 +6,10 @@ use Rattle.type_graph.specs.Forming.{intern}
 use Rattle.type_graph.specs.Rows.{places_of}
 use Rattle.core_calc.specs.Terms.{Lambda}
 use Rattle.core_calc.specs.Views.{term_of}
-use Rattle.cast_insert.specs.Making.{Makes, Typed, form, typed}
-use Rattle.cast_insert.specs.Views.{work_of}
-use Rattle.cast_insert.proofs.Loops.{made_then}
-use Rattle.cast_insert.proofs.Room.{fun_fits}
+use Rattle.cast_rules.specs.Making.{Makes, Typed, form, typed}
+use Rattle.insert_steps.specs.Views.{work_of}
+use Rattle.cast_rules.proofs.Public.{fun_fits}
+use Rattle.insert_steps.proofs.Public.{made_then}
 use Rattle.cast_insert.proofs.elaboration.function.Goals as goal
 
 pub form-requires : goal.form-requires

@@ -1,6 +1,6 @@
 use Rattle.std.proofs.Common.{◌≡◌}
 use Rattle.surface_trees.specs.Views.{exprs_of}
-use Rattle.cast_insert.specs.Sources.{last_place}
+use Rattle.cast_rules.specs.Sources.{last_place}
 use Rattle.cast_insert.proofs.elaboration.last_pos.Given as goal
 
 -- the last place is that of what is left

@@ -1,10 +1,10 @@
 use Rattle.std.proofs.Common.{Err, List, ap, rules, subst, sym, ◌∙◌, ℕ}
 use Rattle.core_calc.specs.Views.{term_of}
 use Rattle.cast_insert.specs.Bodies.{body_of}
-use Rattle.cast_insert.specs.Elaboration.{MemberBody}
-use Rattle.cast_insert.specs.Making.{Makes, Typed, cast_to}
-use Rattle.cast_insert.specs.Views.{Answers, typed_of, work_of}
-use Rattle.cast_insert.proofs.Loops.{failed_first, made_then}
+use Rattle.cast_rules.specs.Elaboration.{MemberBody}
+use Rattle.cast_rules.specs.Making.{Makes, Typed, cast_to}
+use Rattle.insert_steps.specs.Views.{Answers, typed_of, work_of}
+use Rattle.insert_steps.proofs.Public.{failed_first, made_then}
 use Rattle.cast_insert.proofs.elaboration.member_body.Goals as goal
 
 pub returns-clause-answer : goal.returns-clause-answer

@@ -1,7 +1,7 @@
 use Rattle.std.proofs.Common.{ap, sym}
-use Rattle.cast_insert.specs.Making.{Makes, Typed}
-use Rattle.cast_insert.specs.Views.{work_of}
-use Rattle.cast_insert.proofs.Loops.{made_then}
+use Rattle.cast_rules.specs.Making.{Makes, Typed}
+use Rattle.insert_steps.specs.Views.{work_of}
+use Rattle.insert_steps.proofs.Public.{made_then}
 use Rattle.cast_insert.proofs.elaboration.operated.Goals as goal
 
 pub returns-clause-answer : goal.returns-clause-answer

@@ -4,12 +4,12 @@ use Rattle.grift_base.specs.declared.places.TypeId.{TypeId}
 use Rattle.type_graph.specs.Forming.{intern}
 use Rattle.type_graph.specs.Rows.{places_of}
 use Rattle.surface_trees.specs.declared.names.Ident.{Ident}
-use Rattle.cast_insert.specs.Environments.{Head}
+use Rattle.cast_rules.specs.Environments.{Head}
 use Rattle.cast_insert.specs.Heads.{place_in}
-use Rattle.cast_insert.specs.Making.{Made, Makes, form}
-use Rattle.cast_insert.specs.Views.{place_if, work_of}
-use Rattle.cast_insert.proofs.Loops.{made_then}
-use Rattle.cast_insert.proofs.Room.{fun_fits, grows_on}
+use Rattle.cast_rules.specs.Making.{Made, Makes, form}
+use Rattle.insert_steps.specs.Views.{place_if, work_of}
+use Rattle.cast_rules.proofs.Public.{fun_fits, grows_on}
+use Rattle.insert_steps.proofs.Public.{made_then}
 use Rattle.cast_insert.proofs.heads.head_of_types.Goals as goal
 
 pub form-requires : goal.form-requires

@@ -1,10 +1,10 @@
 use Rattle.surface_trees.specs.Views.{letrecs_of}
 use Rattle.cast_insert.specs.Heads.{name_in, written_in, lambda_in}
-use Rattle.cast_insert.specs.Views.{work_of}
+use Rattle.insert_steps.specs.Views.{work_of}
 use Rattle.cast_insert.proofs.Loops.{heads_more, head_named}
 use Rattle.surface_trees.specs.Trees.{LetrecThen}
-use Rattle.cast_insert.specs.Programs.{AreSourceMembers}
-use Rattle.cast_insert.proofs.Room.{grows_on}
+use Rattle.cast_rules.specs.Programs.{AreSourceMembers}
+use Rattle.cast_rules.proofs.Public.{grows_on}
 use Rattle.cast_insert.proofs.heads.heads.Goals as goal
 
 pub member_head-requires-clause-lambda : goal.member_head-requires-clause-lambda

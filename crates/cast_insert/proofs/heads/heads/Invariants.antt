@@ -1,10 +1,10 @@
 use Rattle.std.proofs.Common.{◌≡◌}
 use Rattle.surface_trees.specs.Views.{letrecs_of}
-use Rattle.cast_insert.specs.Environments.{heads_of, names_of_heads, with_names}
+use Rattle.cast_rules.specs.Environments.{heads_of, names_of_heads, with_names}
 use Rattle.cast_insert.specs.Heads.{heads_seen}
-use Rattle.cast_insert.specs.Programs.{AreSourceMembers}
-use Rattle.cast_insert.specs.Room.{Grows}
-use Rattle.cast_insert.specs.Views.{work_of}
+use Rattle.cast_rules.specs.Programs.{AreSourceMembers}
+use Rattle.cast_rules.specs.Room.{Grows}
+use Rattle.insert_steps.specs.Views.{work_of}
 use Rattle.cast_insert.proofs.Loops.{heads_behind}
 use Rattle.cast_insert.proofs.heads.heads.Given as goal
 

@@ -1,4 +1,4 @@
-use Rattle.cast_insert.proofs.Room.{grows_last, grows_on, part_later, parts_later}
+use Rattle.cast_rules.proofs.Public.{grows_last, grows_on, part_later, parts_later}
 use Rattle.cast_insert.proofs.heads.member_head.Goals as goal
 
 pub head_of_types-requires-clause-parameters : goal.head_of_types-requires-clause-parameters

@@ -2,8 +2,8 @@ use Rattle.std.proofs.Common.{ap}
 use Rattle.core_calc.specs.Views.{term_of}
 use Rattle.surface_trees.specs.Views.{expr_of}
 use Rattle.cast_insert.specs.Outcomes.{outcome_of}
-use Rattle.cast_insert.specs.Views.{work_of}
-use Rattle.cast_insert.proofs.Elaborated.{program_answered}
+use Rattle.insert_steps.specs.Views.{work_of}
+use Rattle.cast_rules.proofs.Public.{program_answered}
 use Rattle.cast_insert.proofs.insertion.insert.Goals as goal
 
 pub returns-in-Ok-clause-typed : goal.returns-in-Ok-clause-typed

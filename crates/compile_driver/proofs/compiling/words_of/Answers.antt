@@ -1,5 +1,5 @@
 use Rattle.std.proofs.lemmas.Result.{err_from_is_err_and}
-use Rattle.cast_insert.specs.Views.{entries_of}
+use Rattle.insert_steps.specs.Views.{entries_of}
 use Rattle.surface_trees.specs.Views.{expr_of}
 use Rattle.compile_driver.specs.Compiling.{program_over}
 use Rattle.compile_driver.proofs.Compiled.{is_program}

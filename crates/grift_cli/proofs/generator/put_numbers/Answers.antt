@@ -1,5 +1,5 @@
 use Rattle.std.proofs.Common.{length, ◌∙◌}
-use Rattle.cast_insert.specs.Views.{entries_of}
+use Rattle.insert_steps.specs.Views.{entries_of}
 use Rattle.grift_cli.specs.Generating.{numbers_text}
 use Rattle.grift_cli.proofs.Generated.{as_many, same_numbers}
 use Rattle.grift_cli.proofs.Putting.{numbers_put}

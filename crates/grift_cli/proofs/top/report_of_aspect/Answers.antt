@@ -1,7 +1,7 @@
 use Rattle.std.proofs.Common.{[], refl, sym, length}
 use Rattle.surface_trees.specs.Views.{expr_of}
 use Rattle.core_calc.specs.Views.{term_of}
-use Rattle.cast_insert.specs.Views.{entries_of}
+use Rattle.insert_steps.specs.Views.{entries_of}
 use Rattle.front_end.proofs.Public.{program_type_there, read_programs_are_sources}
 use Rattle.listing.proofs.Public.{elaborated_entries_fit}
 use Rattle.grift_cli.specs.Aspects.{command_about}

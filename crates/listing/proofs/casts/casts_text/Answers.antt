@@ -1,9 +1,9 @@
 use Rattle.std.proofs.Common.{◌≡◌, ℕ, List, ◌++◌, Some, None, get_or, sym, ap, ◌∙◌}
 use Rattle.std.specs.Prelude.{slice_get, option_map}
 use Rattle.std.proofs.lemmas.Option.{slice_get-map, slice_get-get_or}
-use Rattle.cast_insert.specs.Views.{entries_of, entry_of}
-use Rattle.cast_insert.specs.declared.casts.CastEntry.{CastEntry}
-use Rattle.cast_insert.specs.declared.casts.CastEntry.TheVariants.{Cast}
+use Rattle.insert_steps.specs.Views.{entries_of, entry_of}
+use Rattle.insert_steps.specs.declared.casts.CastEntry.{CastEntry}
+use Rattle.insert_steps.specs.declared.casts.CastEntry.TheVariants.{Cast}
 use Rattle.listing.specs.CastLines.{entry_line}
 use Rattle.listing.proofs.CastLemmas.{one_entry_more}
 use Rattle.listing.proofs.casts.casts_text.Goals as goal

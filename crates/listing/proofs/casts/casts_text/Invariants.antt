@@ -1,5 +1,5 @@
 use Rattle.std.proofs.Common.{◌≡◌, take}
-use Rattle.cast_insert.specs.Views.{entries_of}
+use Rattle.insert_steps.specs.Views.{entries_of}
 use Rattle.listing.specs.CastLines.{entry_lines}
 use Rattle.coercion_norm.specs.CoercionTables.{FitsTypes}
 use Rattle.listing.proofs.casts.casts_text.Given as goal

@@ -4,7 +4,7 @@ ghost use Rattle.std.specs.Prelude.{◌≡◌, true};
 ghost use Rattle.rv_select.specs.Fitting.{each_fits};
 ghost use Rattle.rv_select.specs.WellFormed.{IsWellFormed};
 ghost use Rattle.rv_select.specs.declared.code.Place.TheVariants.{Slot};
-ghost use Rattle.reg_assign.specs.Check.{HasHolding};
+ghost use Rattle.placed_code.specs.Check.{HasHolding};
 
 use assembler::assembly::assemble;
 use assembler::image::Image;

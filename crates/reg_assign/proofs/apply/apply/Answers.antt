@@ -1,13 +1,12 @@
 use Rattle.std.proofs.Common.{◌≡◌, ◌∙◌, ap, rules}
 use Rattle.std.proofs.lemmas.Result.{IfOk-weaker}
 use Rattle.rv_select.specs.Fitting.{each_fits}
-use Rattle.reg_assign.specs.Slots.{slots_items}
-use Rattle.reg_assign.specs.Slotted.{free_mark, EachHasFew, IsSlotsOf}
-use Rattle.reg_assign.specs.Places.{place_in}
-use Rattle.reg_assign.specs.Rename.{densely, renamed}
-use Rattle.reg_assign.specs.Applied.{IsApplied}
-use Rattle.reg_assign.proofs.Keeps.{is_applied}
-use Rattle.reg_assign.proofs.Renamed.{renamed_fit}
+use Rattle.placed_code.specs.Slots.{slots_items}
+use Rattle.placed_code.specs.Slotted.{free_mark, EachHasFew, IsSlotsOf}
+use Rattle.placed_code.specs.Places.{place_in}
+use Rattle.placed_code.specs.Rename.{densely, renamed}
+use Rattle.placed_code.specs.Applied.{IsApplied}
+use Rattle.placed_code.proofs.Public.{is_applied, renamed_fit}
 use Rattle.reg_assign.proofs.apply.apply.Goals as goal
 
 pub slots-requires : goal.slots-requires

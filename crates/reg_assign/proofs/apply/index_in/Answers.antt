@@ -1,6 +1,6 @@
 use Rattle.std.proofs.Common.{◌∙◌, ap, length}
 use Rattle.std.specs.Prelude.{unwrap_or}
-use Rattle.reg_assign.proofs.SlotLists.{place_is}
+use Rattle.placed_code.proofs.Public.{place_is}
 use Rattle.reg_assign.proofs.apply.index_in.Goals as goal
 
 pub returns-in-Some : goal.returns-in-Some

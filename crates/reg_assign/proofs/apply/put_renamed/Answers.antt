@@ -1,9 +1,9 @@
 use Rattle.std.proofs.Common.{◌≡◌, ◌+◌, ◌++◌, ◌∷◌, refl, sym, ◌∙◌, ap, subst, drop}
 use Rattle.rv_select.specs.declared.code.VirtualItem.TheVariants.{Procedure}
-use Rattle.reg_assign.specs.Slotted.{EachHasFew}
-use Rattle.reg_assign.specs.Places.{place_in}
-use Rattle.reg_assign.specs.Rename.{kept_in, densely, rename_all}
-use Rattle.reg_assign.proofs.Renamed.{put_procedure, put_other, few_procedure, few_other, rest_is}
+use Rattle.placed_code.specs.Slotted.{EachHasFew}
+use Rattle.placed_code.specs.Places.{place_in}
+use Rattle.placed_code.specs.Rename.{kept_in, densely, rename_all}
+use Rattle.placed_code.proofs.Public.{few_other, few_procedure, put_other, put_procedure, rest_is}
 use Rattle.reg_assign.proofs.apply.put_renamed.Goals as goal
 use Rattle.reg_assign.proofs.apply.put_renamed.Goals.{in-Procedure+in_ok-kept-2+in_ok-slots+in_ok-push}
 use Rattle.reg_assign.proofs.apply.put_renamed.Goals.{in_default+in_ok-other+in_ok-push-2}

@@ -1,7 +1,7 @@
 use Rattle.std.proofs.Common.{◌≡◌, ◌++◌, ℕ, drop}
-use Rattle.reg_assign.specs.Slotted.{EachHasFew}
-use Rattle.reg_assign.specs.Places.{place_in}
-use Rattle.reg_assign.specs.Rename.{kept_in, densely, rename_all}
+use Rattle.placed_code.specs.Slotted.{EachHasFew}
+use Rattle.placed_code.specs.Places.{place_in}
+use Rattle.placed_code.specs.Rename.{kept_in, densely, rename_all}
 use Rattle.reg_assign.proofs.apply.put_renamed.Given as goal
 
 -- what is done, and what is left under the names of its procedure, are all; each procedure before has few registers

@@ -1,6 +1,6 @@
 use Rattle.std.proofs.Common.{sym, ◌∙◌, ap}
-use Rattle.reg_assign.specs.Places.{place_in}
-use Rattle.reg_assign.proofs.SlotLists.{kept_slot, kept_other}
+use Rattle.placed_code.specs.Places.{place_in}
+use Rattle.placed_code.proofs.Public.{kept_other, kept_slot}
 use Rattle.reg_assign.proofs.apply.slots_kept.Goals as goal
 use Rattle.reg_assign.proofs.apply.slots_kept.Goals.{in-Slot+in_ok-insert, in_default}
 

@@ -1,6 +1,6 @@
 use Rattle.std.proofs.Common.{◌≡◌}
-use Rattle.reg_assign.specs.Places.{place_in}
-use Rattle.reg_assign.specs.Rename.{kept_in}
+use Rattle.placed_code.specs.Places.{place_in}
+use Rattle.placed_code.specs.Rename.{kept_in}
 use Rattle.reg_assign.proofs.apply.slots_kept.Given as goal
 
 -- the slots of the registers so far

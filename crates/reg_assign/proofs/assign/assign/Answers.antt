@@ -1,7 +1,7 @@
 use Rattle.std.proofs.Common.{◌≡◌, ◌+◌, ◌∷◌, [], suc, length, sym, ◌∙◌, ap, subst, length-append, arith}
 use Rattle.rv_select.specs.declared.code.Place.TheVariants.{Slot}
-use Rattle.reg_assign.specs.Places.{place_in}
-use Rattle.reg_assign.specs.Check.{with_place}
+use Rattle.placed_code.specs.Places.{place_in}
+use Rattle.placed_code.specs.Check.{with_place}
 use Rattle.reg_assign.specs.Room.{IsRoom, IsChosen}
 use Rattle.reg_assign.proofs.Assigned.{AreTurns, no_turns, turns_more, placed_more, best_of}
 use Rattle.reg_assign.proofs.assign.assign.Goals as goal

@@ -1,5 +1,5 @@
 use Rattle.std.proofs.Common.{◌≡◌, ◌+◌, length}
-use Rattle.reg_assign.specs.Places.{place_in}
+use Rattle.placed_code.specs.Places.{place_in}
 use Rattle.reg_assign.specs.Room.{IsRoom}
 use Rattle.reg_assign.proofs.Assigned.{AreTurns}
 use Rattle.reg_assign.proofs.assign.assign.Given as goal

@@ -1,7 +1,7 @@
 use Rattle.std.proofs.Common.{sym, subst}
 use Rattle.rv_select.specs.declared.code.Place.TheVariants.{InReg}
 use Rattle.rv_select.specs.Holding.{SparedBy, SparedByCall, NoneAt, writes}
-use Rattle.reg_assign.specs.Places.{place_in}
+use Rattle.placed_code.specs.Places.{place_in}
 use Rattle.reg_assign.specs.Room.{Tells}
 use Rattle.reg_assign.proofs.Masks.{tells_same, tells_never, call_takes, unless_call}
 use Rattle.reg_assign.proofs.assign.changes.Goals as goal

@@ -1,5 +1,5 @@
 use Rattle.std.proofs.Common.{inl, sym, ◌∙◌, subst, arith}
-use Rattle.reg_assign.specs.Places.{place_in}
+use Rattle.placed_code.specs.Places.{place_in}
 use Rattle.reg_assign.specs.Walks.{Steps}
 use Rattle.reg_assign.specs.Room.{IsLeft}
 use Rattle.reg_assign.proofs.Assigned.{now_taken, now_free, now_spared}

@@ -4,7 +4,7 @@ use Rattle.std.specs.Prelude.{slice_get, slice_index}
 use Rattle.rv_select.specs.declared.code.Place.TheVariants.{InReg}
 use Rattle.rv_select.specs.declared.code.VirtualItem.{VirtualItem}
 use Rattle.rv_select.specs.Holding.{may_hold, SparedBy}
-use Rattle.reg_assign.specs.Places.{place_in}
+use Rattle.placed_code.specs.Places.{place_in}
 use Rattle.reg_assign.specs.Walks.{IsWalk, IsClosed, left}
 use Rattle.reg_assign.specs.Room.{IsTaken}
 use Rattle.reg_assign.proofs.assign.gather.Given as goal

@@ -1,4 +1,4 @@
-use Rattle.reg_assign.proofs.Names.{equal_of}
+use Rattle.placed_code.proofs.Public.{equal_of}
 use Rattle.reg_assign.proofs.Masks.{full_is}
 use Rattle.std.specs.Prelude.{bit_and}
 use Rattle.reg_assign.proofs.assign.is_full.Goals as goal

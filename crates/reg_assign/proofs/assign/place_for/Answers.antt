@@ -4,8 +4,8 @@ use Rattle.std.specs.Int.{bit_at}
 use Rattle.std.specs.Prelude.{slice_index, Contains}
 use Rattle.rv_select.specs.declared.code.Place.TheVariants.{InReg}
 use Rattle.rv_select.specs.declared.code.VReg.TheVariants.{Virtual}
-use Rattle.reg_assign.specs.Places.{place_in}
-use Rattle.reg_assign.specs.Check.{HasHolding, with_place}
+use Rattle.placed_code.specs.Places.{place_in}
+use Rattle.placed_code.specs.Check.{HasHolding, with_place}
 use Rattle.reg_assign.specs.Numbers.{register_at}
 use Rattle.reg_assign.specs.Flow.{under}
 use Rattle.reg_assign.specs.Room.{Tells}

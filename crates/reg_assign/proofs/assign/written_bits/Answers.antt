@@ -2,7 +2,7 @@ use Rattle.std.proofs.Common.{subst, ◌++◌}
 use Rattle.std.specs.Prelude.{option_to_list, bit_or}
 use Rattle.rv_select.specs.declared.code.Place.TheVariants.{InReg}
 use Rattle.rv_select.specs.Holding.{NoneAt}
-use Rattle.reg_assign.specs.Places.{place_in}
+use Rattle.placed_code.specs.Places.{place_in}
 use Rattle.reg_assign.specs.Room.{Tells}
 use Rattle.reg_assign.proofs.Masks.{tells_same, tells_both, none_both, none_parts}
 use Rattle.reg_assign.proofs.assign.written_bits.Goals as goal

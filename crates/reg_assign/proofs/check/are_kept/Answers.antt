@@ -1,6 +1,6 @@
 use Rattle.std.proofs.Common.{length, refl, sym, ◌∙◌, subst, add-one, arith}
 use Rattle.reg_assign.specs.Numbers.{register_at}
-use Rattle.reg_assign.specs.Places.{place_in}
+use Rattle.placed_code.specs.Places.{place_in}
 use Rattle.reg_assign.specs.Flow.{under}
 use Rattle.reg_assign.specs.Walks.{IsIdle}
 use Rattle.reg_assign.proofs.Kept.{all_kept, kept_of_all}

@@ -1,6 +1,6 @@
 use Rattle.std.proofs.Common.{ℕ, ◌<◌, length}
 use Rattle.reg_assign.specs.Numbers.{register_at}
-use Rattle.reg_assign.specs.Places.{place_in}
+use Rattle.placed_code.specs.Places.{place_in}
 use Rattle.reg_assign.specs.Flow.{IsKept}
 use Rattle.reg_assign.specs.Walks.{IsIdle}
 use Rattle.reg_assign.proofs.check.are_kept.Given as goal

@@ -1,6 +1,6 @@
 use Rattle.std.proofs.Common.{◌<◌, length, refl, ◌∙◌, subst, arith}
 use Rattle.reg_assign.specs.Numbers.{register_at}
-use Rattle.reg_assign.specs.Places.{place_in}
+use Rattle.placed_code.specs.Places.{place_in}
 use Rattle.reg_assign.specs.Flow.{Behind, under}
 use Rattle.reg_assign.specs.Walks.{Steps}
 use Rattle.reg_assign.specs.Fits.{IsFine}

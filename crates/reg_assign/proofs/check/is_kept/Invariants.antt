@@ -1,7 +1,7 @@
 use Rattle.std.proofs.Common.{ℕ, ◌<◌, ◌≡◌}
 use Rattle.std.specs.Prelude.{slice_index}
 use Rattle.reg_assign.specs.Numbers.{register_at}
-use Rattle.reg_assign.specs.Places.{place_in}
+use Rattle.placed_code.specs.Places.{place_in}
 use Rattle.reg_assign.specs.Walks.{IsWalk, IsClosed, left}
 use Rattle.reg_assign.specs.Fits.{IsFine}
 use Rattle.reg_assign.proofs.check.is_kept.Given as goal

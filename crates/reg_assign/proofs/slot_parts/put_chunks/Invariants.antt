@@ -1,7 +1,7 @@
 use Rattle.std.proofs.Common.{◌≡◌, ◌≤◌, ◌++◌, ◌∷◌, pos}
 use Rattle.rv_isa.specs.declared.inst.Inst.TheVariants.{Addi}
 use Rattle.rv_machine.specs.declared.real.RealItem.TheVariants.{Op}
-use Rattle.reg_assign.specs.Slots.{chunk_of, chunk_items}
+use Rattle.placed_code.specs.Slots.{chunk_of, chunk_items}
 use Rattle.reg_assign.proofs.slot_parts.put_chunks.Given as goal
 
 -- what is done, and the chunks that are left, are all

@@ -1,6 +1,6 @@
 use Rattle.std.proofs.Common.{◌≡◌, drop}
 use Rattle.rv_select.specs.Marks.{marks}
-use Rattle.reg_assign.specs.Slotted.{above}
+use Rattle.placed_code.specs.Slotted.{above}
 use Rattle.reg_assign.proofs.slots.free_mark.Given as goal
 
 -- above the marks that are left is above all

@@ -1,7 +1,7 @@
 use Rattle.std.proofs.Common.{◌≡◌, ◌++◌, true, drop}
 use Rattle.rv_select.specs.Fitting.{each_fits}
-use Rattle.reg_assign.specs.Slots.{expand_all}
-use Rattle.reg_assign.specs.Slotted.{EachHasFew}
+use Rattle.placed_code.specs.Slots.{expand_all}
+use Rattle.placed_code.specs.Slotted.{EachHasFew}
 use Rattle.reg_assign.proofs.slots.put_items.Given as goal
 
 -- what is done, and what the items left become, are all; each procedure before has few registers

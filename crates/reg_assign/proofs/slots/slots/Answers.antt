@@ -1,7 +1,7 @@
 use Rattle.std.proofs.Common.{rules, ◌≡◌}
-use Rattle.reg_assign.specs.Slots.{slots_items}
-use Rattle.reg_assign.specs.Slotted.{free_mark, EachHasFew}
-use Rattle.reg_assign.proofs.slotted.SlotClaims.{is_slots}
+use Rattle.placed_code.specs.Slots.{slots_items}
+use Rattle.placed_code.specs.Slotted.{free_mark, EachHasFew}
+use Rattle.placed_code.proofs.Public.{is_slots}
 use Rattle.reg_assign.proofs.slots.slots.Goals as goal
 
 pub returns : goal.returns

@@ -1,6 +1,6 @@
 use Rattle.std.proofs.Common.{◌≡◌, ◌<◌, length, sym, subst, rules, arith}
 use Rattle.std.specs.Prelude.{slice_index}
-use Rattle.reg_assign.specs.Check.{Needed}
+use Rattle.placed_code.specs.Check.{Needed}
 use Rattle.reg_assign.specs.Numbers.{register_at}
 use Rattle.reg_assign.specs.Walks.{Reaches}
 use Rattle.reg_assign.proofs.Walking.{behind_needed, closed_on, read_at}

@@ -3,7 +3,7 @@ use Rattle.std.specs.Prelude.{Contains}
 use Rattle.std.proofs.lemmas.List.Elements.{Contains-get_or}
 use Rattle.rv_select.specs.declared.code.VirtualItem.TheVariants.{Mark}
 use Rattle.rv_select.specs.Holding.{Among, writes}
-use Rattle.reg_assign.specs.Check.{Needed}
+use Rattle.placed_code.specs.Check.{Needed}
 use Rattle.reg_assign.specs.Numbers.{register_at}
 use Rattle.reg_assign.specs.Flow.{under}
 use Rattle.reg_assign.proofs.Walking.{grows_then, leads_source, more_found, source_found, mark_is, AreFound}

@@ -3,14 +3,14 @@ use Rattle.grift_base.specs.declared.refusals.RefusalKind.TheVariants.{BadForm, 
 use Rattle.sexpr_reader.specs.declared.sexps.Sexp.{Sexp, out-Sexp}
 use Rattle.sexpr_reader.specs.declared.sexps.SexpList.{the_lemmas}
 use Rattle.sexpr_reader.specs.View.{datum_of, datums_of}
-use Rattle.surface_syntax.specs.Marked.{marked, all_marked}
-use Rattle.surface_syntax.specs.Walking.{Reads, Refuses}
-use Rattle.surface_syntax.specs.Pass.{parse_list, parse_within}
+use Rattle.form_table.specs.Marked.{marked, all_marked}
+use Rattle.form_table.specs.Walking.{Reads, Refuses}
+use Rattle.form_table.specs.Pass.{parse_list, parse_within}
 use Rattle.surface_trees.specs.Views.{expr_of, exprs_of, params_of, lambda_of}
 use Rattle.surface_syntax.specs.Parts.{range_of, bound_of, member_of, parse_call, in_box}
 use Rattle.surface_syntax.specs.Forms.{headed_of, lambda_from}
-use Rattle.surface_syntax.specs.Claims.{Parses}
-use Rattle.surface_syntax.proofs.Steps.{place_marked}
+use Rattle.form_table.specs.Claims.{Parses}
+use Rattle.form_table.proofs.Public.{place_marked}
 use Rattle.surface_syntax.proofs.FormRows.{bind_reads, bind_ok, bind_exit, plain_reads, plain_exit}
 use Rattle.surface_syntax.proofs.FormRows.{answers_refused}
 use Rattle.surface_syntax.proofs.ExprRows.{no_word, arrow_heads, within_full, within_more}

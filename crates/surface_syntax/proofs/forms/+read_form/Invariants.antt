@@ -1,8 +1,8 @@
 use Rattle.std.proofs.Common.{◌≡◌, ◌≤◌, []}
 use Rattle.sexpr_reader.specs.declared.sexps.SexpList.{size-SexpList}
 use Rattle.sexpr_reader.specs.View.{datums_of}
-use Rattle.surface_syntax.specs.Marked.{all_marked}
-use Rattle.surface_syntax.specs.Pass.{parse_each, parse_lets, parse_letrecs}
+use Rattle.form_table.specs.Marked.{all_marked}
+use Rattle.form_table.specs.Pass.{parse_each, parse_lets, parse_letrecs}
 use Rattle.surface_syntax.specs.Parts.{lets_before, letrecs_before}
 use Rattle.surface_syntax.proofs.Loops.{behind_exprs, with_list}
 use Rattle.surface_syntax.proofs.forms.+read_form.Given as goal

@@ -2,11 +2,10 @@ use Rattle.std.proofs.Common.{ap, sym, ◌∙◌}
 use Rattle.grift_base.specs.declared.refusals.RefusalKind.TheVariants.{TooWide}
 use Rattle.sexpr_reader.specs.declared.sexps.Sexp.{Sexp, out-Sexp}
 use Rattle.sexpr_reader.specs.View.{datum_of, datums_of}
-use Rattle.surface_syntax.specs.Marked.{marked, all_marked}
-use Rattle.surface_syntax.specs.Walking.{Refuses}
+use Rattle.form_table.specs.Marked.{marked, all_marked}
+use Rattle.form_table.specs.Walking.{Refuses}
 use Rattle.surface_trees.specs.Views.{params_of}
-use Rattle.surface_syntax.proofs.Steps.{place_marked}
-use Rattle.surface_syntax.proofs.Binds.{walk_refused}
+use Rattle.form_table.proofs.Public.{place_marked, walk_refused}
 use Rattle.surface_syntax.proofs.ParamRows.{params_full, params_exit, params_more}
 use Rattle.surface_syntax.proofs.params.params.Goals as goal
 

@@ -1,7 +1,7 @@
 use Rattle.std.proofs.Common.{◌≡◌, []}
 use Rattle.sexpr_reader.specs.View.{datums_of}
-use Rattle.surface_syntax.specs.Marked.{all_marked}
-use Rattle.surface_syntax.specs.Walk.{walk_params}
+use Rattle.form_table.specs.Marked.{all_marked}
+use Rattle.form_table.specs.Walk.{walk_params}
 use Rattle.surface_trees.specs.Views.{params_of}
 use Rattle.surface_syntax.proofs.ParamRows.{behind_params}
 use Rattle.surface_syntax.proofs.params.params.Given as goal

@@ -1,9 +1,9 @@
 use Rattle.std.proofs.Common.{subst, sym}
 use Rattle.sexpr_reader.specs.View.{datums_of}
 use Rattle.surface_trees.specs.Views.{named_param_of}
-use Rattle.surface_syntax.specs.Claims.{Answers}
-use Rattle.surface_syntax.specs.Marked.{all_marked}
-use Rattle.surface_syntax.proofs.Binds.{walk_exit, walk_ok}
+use Rattle.form_table.specs.Claims.{Answers}
+use Rattle.form_table.specs.Marked.{all_marked}
+use Rattle.form_table.proofs.Public.{walk_exit, walk_ok}
 use Rattle.surface_syntax.proofs.ParamRows.{typed_row}
 use Rattle.surface_syntax.proofs.params.typed_param.Goals as goal
 

@@ -1,5 +1,5 @@
 use Rattle.std.proofs.Common.{◌≡◌, map, vec_len}
-use Rattle.surface_syntax.specs.Expansion.{closed, whole}
+use Rattle.derived_forms.specs.Expansion.{closed, whole}
 use Rattle.surface_syntax.specs.TopParts.{part_of, rest_of}
 use Rattle.surface_syntax.proofs.Joined.{onto}
 use Rattle.surface_syntax.proofs.programs.whole.Given as goal

@@ -1,9 +1,9 @@
 use Rattle.std.proofs.Common.{[], ◌∷◌, ◌++◌, refl, ap, sym, ◌∙◌, subst}
 use Rattle.sexpr_reader.specs.View.{datum_of}
-use Rattle.surface_syntax.specs.Marked.{marked}
+use Rattle.form_table.specs.Marked.{marked}
 use Rattle.surface_trees.specs.Views.{written_of}
 use Rattle.surface_syntax.specs.TopParts.{part_of}
-use Rattle.surface_syntax.specs.Claims.{Parses}
+use Rattle.form_table.specs.Claims.{Parses}
 use Rattle.surface_syntax.proofs.FormRows.{bind_reads, bind_exit}
 use Rattle.surface_syntax.proofs.Rows.{run_stays, bound_function, bound_value}
 use Rattle.surface_syntax.proofs.tops.bound.Goals as goal

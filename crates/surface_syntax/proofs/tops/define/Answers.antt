@@ -1,10 +1,10 @@
 use Rattle.std.proofs.Common.{ap, sym, ◌∙◌, subst}
 use Rattle.sexpr_reader.specs.declared.sexps.Sexp.{Sexp, out-Sexp}
 use Rattle.sexpr_reader.specs.View.{datums_of}
-use Rattle.surface_syntax.specs.Marked.{all_marked}
-use Rattle.surface_syntax.specs.Pass.{parse_define}
+use Rattle.form_table.specs.Marked.{all_marked}
+use Rattle.form_table.specs.Pass.{parse_define}
 use Rattle.surface_syntax.specs.TopParts.{part_of}
-use Rattle.surface_syntax.specs.Claims.{Parses}
+use Rattle.form_table.specs.Claims.{Parses}
 use Rattle.surface_syntax.proofs.Shapes.{one_first}
 use Rattle.surface_syntax.proofs.Rows.{is_named}
 use Rattle.surface_syntax.proofs.tops.define.Goals as goal

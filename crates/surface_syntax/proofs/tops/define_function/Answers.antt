@@ -1,10 +1,10 @@
 use Rattle.std.proofs.Common.{refl, sym, ◌∙◌, subst, rules}
 use Rattle.sexpr_reader.specs.View.{datums_of}
-use Rattle.surface_syntax.specs.Marked.{all_marked}
+use Rattle.form_table.specs.Marked.{all_marked}
 use Rattle.surface_trees.specs.Views.{params_of, lambda_of}
 use Rattle.surface_syntax.specs.TopParts.{part_of}
 use Rattle.surface_syntax.specs.Parts.{in_box}
-use Rattle.surface_syntax.specs.Claims.{Parses}
+use Rattle.form_table.specs.Claims.{Parses}
 use Rattle.surface_syntax.proofs.FormRows.{bind_reads, bind_ok, bind_err, plain_reads, plain_err}
 use Rattle.surface_syntax.proofs.Shapes.{one_first}
 use Rattle.surface_syntax.proofs.Rows.{function_named}

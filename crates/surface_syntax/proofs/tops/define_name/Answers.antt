@@ -1,6 +1,6 @@
 use Rattle.std.proofs.Common.{[], ◌∷◌, ◌++◌, ap, ◌∙◌}
 use Rattle.sexpr_reader.specs.View.{datum_of}
-use Rattle.surface_syntax.specs.Marked.{marked}
+use Rattle.form_table.specs.Marked.{marked}
 use Rattle.surface_syntax.proofs.Rows.{grows_with}
 use Rattle.surface_syntax.proofs.tops.define_name.Goals as goal
 

@@ -2,10 +2,10 @@ use Rattle.std.proofs.Common.{map, [], ◌∷◌, ap, sym, ◌∙◌, arith, len
 use Rattle.grift_base.specs.declared.refusals.RefusalKind.TheVariants.{TooManyForms}
 use Rattle.sexpr_reader.specs.declared.sexps.Sexp.{Sexp, out-Sexp}
 use Rattle.sexpr_reader.specs.View.{datum_of, datums_of}
-use Rattle.surface_syntax.specs.Marked.{marked, all_marked}
-use Rattle.surface_syntax.specs.Walking.{Refuses}
+use Rattle.form_table.specs.Marked.{marked, all_marked}
+use Rattle.form_table.specs.Walking.{Refuses}
 use Rattle.surface_syntax.specs.TopParts.{part_of}
-use Rattle.surface_syntax.proofs.Steps.{place_marked}
+use Rattle.form_table.proofs.Public.{place_marked}
 use Rattle.surface_syntax.proofs.FormRows.{answers_refused}
 use Rattle.surface_syntax.proofs.Rows.{tops_full, tops_exit, tops_more}
 use Rattle.surface_syntax.proofs.tops.parts.Goals as goal

@@ -1,7 +1,7 @@
 use Rattle.std.proofs.Common.{◌≡◌, ◌+◌, [], length, map}
 use Rattle.sexpr_reader.specs.View.{datums_of}
-use Rattle.surface_syntax.specs.Marked.{all_marked, how_many}
-use Rattle.surface_syntax.specs.Pass.{parse_tops}
+use Rattle.form_table.specs.Marked.{all_marked, how_many}
+use Rattle.form_table.specs.Pass.{parse_tops}
 use Rattle.surface_syntax.specs.TopParts.{part_of}
 use Rattle.surface_syntax.proofs.Rows.{behind_parts}
 use Rattle.surface_syntax.proofs.tops.parts.Given as goal

@@ -1,15 +1,15 @@
 use Rattle.std.proofs.Common.{ap, ap₂, sym, ◌∙◌, subst}
 use Rattle.sexpr_reader.specs.View.{datum_of}
-use Rattle.surface_syntax.specs.Marked.{marked}
+use Rattle.form_table.specs.Marked.{marked}
 use Rattle.surface_trees.specs.Trees.{TypeAt, TypeExpr, TypeExprs, TypeThen}
-use Rattle.surface_syntax.specs.Walking.{Walked, Reads}
-use Rattle.surface_syntax.specs.Walk.{Signature, walk_type, walk_types, walk_signature}
+use Rattle.form_table.specs.Walking.{Walked, Reads}
+use Rattle.form_table.specs.Walk.{Signature, walk_type, walk_types, walk_signature}
 use Rattle.surface_trees.specs.Views.{type_of, type_node_of, types_of}
 use Rattle.surface_syntax.specs.Parts.{type_head, signature_of}
-use Rattle.surface_syntax.specs.Claims.{Answers}
-use Rattle.surface_syntax.proofs.Steps.{HeadIs, headed_here, only_one, types_more, signature_more}
+use Rattle.form_table.specs.Claims.{Answers}
+use Rattle.form_table.proofs.Public.{bind_reads, only_one, signature_more, types_more, walk_exit, walk_ok}
+use Rattle.surface_syntax.proofs.TypeHeads.{HeadIs, headed_here}
 use Rattle.surface_syntax.proofs.Shapes.{one_first}
-use Rattle.surface_syntax.proofs.Binds.{bind_reads, walk_ok, walk_exit}
 use Rattle.surface_syntax.proofs.type_forms.+read_type.Goals as goal
 
 pub type_list-returns : goal.type_list-returns

@@ -1,6 +1,6 @@
 use Rattle.core_calc.specs.Views.{term_of}
 use Rattle.surface_trees.specs.Views.{expr_of}
-use Rattle.cast_insert.specs.Views.{entries_of}
+use Rattle.insert_steps.specs.Views.{entries_of}
 use Rattle.front_end.proofs.Public.{read_programs_are_sources}
 use Rattle.listing.proofs.Public.{elaborated_entries_fit}
 use Rattle.listing_tests.proofs.tests.casts.listed.Goals as goal

@@ -1,9 +1,0 @@
-use Rattle.std.proofs.Common.{ap}
-use Rattle.core_calc.specs.Terms.{Cast}
-use Rattle.calc_stepper.proofs.Gathering.{term_boxed}
-use Rattle.calc_stepper.proofs.calls.copy_in_cast.Goals as goal
-
-pub returns : goal.returns
-returns c =
-    term_boxed _ _ _ c.boxed.ensures
-    (ap (λ x. Cast x c.args.from.0 c.args.to.0 c.args.label.0) c.in_ok-below.ensures)

@@ -1,7 +1,0 @@
-use Rattle.calc_stepper.proofs.OperatorTurns.{onward}
-use Rattle.calc_stepper.proofs.operators.unbox.Goals as goal
-
-pub returns-in-Loc-default-false : goal.returns-in-Loc-default-false
-returns-in-Loc-default-false c =
-    rw c.in-Loc-default-false.is (rw c.in-Loc-default-false.field-1-test (onward c.read_box.result c.read_box.ensures
-    (λ turn h world. h c.args.types.now world)))

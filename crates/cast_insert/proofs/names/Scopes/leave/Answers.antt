@@ -1,7 +1,0 @@
-use Rattle.cast_insert.proofs.Scoping.{leave_more}
-use Rattle.cast_insert.proofs.names.Scopes.leave.Goals as goal
-
-pub loop-taken-preserved : goal.loop-taken-preserved
-loop-taken-preserved c =
-    leave_more c.loop-taken._taken c.args.self.now c.loop-taken.self c.leave_one.new.self c.loop-taken.invariant
-    c.in_ok-leave_one.ensures

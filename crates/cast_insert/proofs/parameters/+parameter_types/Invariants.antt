@@ -1,5 +1,0 @@
-use Rattle.std.proofs.Common.{length}
-use Rattle.cast_insert.proofs.parameters.+parameter_types.Given as goal
-
-abbrev pub decreases-parameter_types : goal.decreases-parameter_types
-decreases-parameter_types l = length l.params.now

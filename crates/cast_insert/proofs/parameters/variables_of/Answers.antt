@@ -1,8 +1,0 @@
-use Rattle.std.proofs.Common.{arith}
-use Rattle.cast_insert.proofs.Scoping.{variables_more}
-use Rattle.cast_insert.proofs.parameters.variables_of.Goals as goal
-
-pub loop-named-preserved : goal.loop-named-preserved
-loop-named-preserved c =
-    variables_more c.args.names.now c.loop-named.named-index c.named-item.result c.loop-named.ids c.push.new.self
-    (omega arith) c.named-item.is c.loop-named.invariant c.in_ok-push.ensures.ok

@@ -1,0 +1,17 @@
+pub mod Tables
+pub mod Forming
+pub mod Growing
+pub mod Fresh
+pub mod Works
+pub mod Environments
+pub mod Parts
+pub mod Operators
+pub mod Nodes
+pub mod Lists
+pub mod Scopes
+pub mod Groups
+pub mod Steps
+pub mod Room
+pub mod Elaborated
+pub mod Listing
+pub mod Public

@@ -1,0 +1,11 @@
+pub mod Sources
+pub mod WrittenTypes
+pub mod Making
+pub mod Environments
+pub mod Calls
+pub mod Operators
+pub mod Elaboration
+pub mod Programs
+pub mod Claims
+pub mod Room
+pub mod Listed

@@ -1,0 +1,4 @@
+mod Gathering
+mod Hiding
+mod Filling
+pub mod Public

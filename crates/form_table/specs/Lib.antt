@@ -1,0 +1,13 @@
+pub mod Words
+pub mod Marked
+pub mod Table
+pub mod TopTable
+pub mod Walking
+pub mod Walk
+pub mod TopWalk
+pub mod Pass
+pub mod Claims
+pub mod Laws
+pub mod Programs
+pub mod Depth
+pub mod Freshness

@@ -1,0 +1,5 @@
+pub mod Scoping
+pub mod Onto
+pub mod Rules
+mod Made
+pub mod Public

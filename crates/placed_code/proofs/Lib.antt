@@ -1,0 +1,23 @@
+mod slotted
+mod Items
+mod Names
+mod Renaming
+mod Dense
+mod RenamedPrices
+mod Follows
+mod AppliedRuns
+mod Keeps
+mod Checks
+mod Greedy
+mod Prices
+mod Samples
+mod FrameSizes
+mod SampleHolding
+mod SlotLists
+mod Renamed
+mod LacksStack
+mod ProcWords
+mod ImageBytes
+mod Readings
+mod SpareStack
+pub mod Public
