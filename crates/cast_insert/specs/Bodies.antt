@@ -6,10 +6,7 @@ use Rattle.grift_base.specs.Types.{FunRow}
 use Rattle.type_graph.specs.Forming.{intern}
 use Rattle.core_calc.specs.Terms.{Lambda, Prim}
 use Rattle.core_calc.specs.Views.{term_of, terms_of, bindings_of, names_of}
-use Rattle.surface_trees.specs.declared.names.Ident.{Ident}
-use Rattle.surface_trees.specs.declared.exprs.Binding.{Binding as RustBinding, out-Binding}
 use Rattle.surface_trees.specs.Trees.{TypeExpr, Expr, Exprs}
-use Rattle.surface_trees.specs.Views.{expr_of, written_of}
 use Rattle.cast_insert.specs.declared.elaboration.Sequence.{Sequence as RustSequence}
 use Rattle.cast_insert.specs.declared.elaboration.Bound.{Bound as RustBound}
 use Rattle.cast_insert.specs.declared.elaboration.Gathered.{Gathered}
@@ -33,16 +30,6 @@ gathered_of gathered = record { terms = terms_of gathered.terms; content = place
 
 abbrev pub body_of : RustMemberBody → MemberBody
 body_of body = record { variables = names_of body.variables; body = term_of body.body.value }
-
--- a binding's name, its written type, and its value
-abbrev pub bound_name_in : RustBinding → Ident
-bound_name_in binding = (out-Binding binding).name
-
-abbrev pub type_in : RustBinding → Option TypeExpr
-type_in binding = written_of (out-Binding binding).ty
-
-abbrev pub value_in : RustBinding → Expr
-value_in binding = expr_of (out-Binding binding).value
 
 -- the value of a binding, at its written type if it has one
 abbrev pub bound_value : Option TypeExpr → Expr → Environment → Making Typed

@@ -10,6 +10,7 @@ ghost use Rattle.core_calc.specs.Terms.{Group, Let, NoBindings, NoMembers, Seq, 
 ghost use Rattle.core_calc.specs.Views.{bindings_of, members_of, names_of, term_of, terms_of};
 ghost use Rattle.surface_trees.specs.Trees.{AscribeNode, BeginNode, PrimNode, TupleNode};
 ghost use Rattle.surface_trees.specs.Views.{expr_of, exprs_of, lambda_of, lets_of, letrecs_of, node_of, type_of};
+ghost use Rattle.surface_trees.specs.Views.{name_of_binding, type_of_binding, value_of_binding};
 ghost use Rattle.cast_rules.specs.Sources.{how_many, last_place, place_of};
 ghost use Rattle.cast_rules.specs.Making.{Makes, typed};
 ghost use Rattle.cast_rules.specs.Environments.{plain, with_names};
@@ -24,9 +25,8 @@ ghost use Rattle.insert_steps.specs.Scoped.{env_of};
 ghost use Rattle.insert_steps.specs.Seen.{operand_seen};
 ghost use Rattle.cast_insert.specs.Heads.{head_seen, heads_seen};
 ghost use Rattle.insert_steps.specs.Gathered.{given_of};
-ghost use Rattle.cast_insert.specs.Bodies.{body_of, bound_name_in, bound_of, bound_value, function_of, gathered_of};
-ghost use Rattle.cast_insert.specs.Bodies.{lambda_rest, lambda_with, member_with, operation_on, sequence_of, type_in};
-ghost use Rattle.cast_insert.specs.Bodies.{value_in};
+ghost use Rattle.cast_insert.specs.Bodies.{body_of, bound_of, bound_value, function_of, gathered_of};
+ghost use Rattle.cast_insert.specs.Bodies.{lambda_rest, lambda_with, member_with, operation_on, sequence_of};
 ghost use Rattle.insert_steps.specs.Views.{Answers, place_if, typed_of, work_of};
 ghost use Rattle.insert_steps.specs.Onto.{bindings_onto, members_onto};
 
@@ -289,8 +289,8 @@ fn binding_name(
     ty: TypeId,
 ) -> Result<Named, OutOfMemory>
     ensures { IfOk result (λ named. env_of (named ∷ []) ≡ (
-      bound_name_in binding.now.value,
-      plain (place_of (value_in binding.now.value)) variable.0 ty.0,
+      name_of_binding binding.now.value,
+      plain (place_of (value_of_binding binding.now.value)) variable.0 ty.0,
     ) ∷ []) }
 {
     plain_name(alloc, &binding.name, binding.value.pos, variable, ty)
@@ -847,10 +847,11 @@ fn bound_value(
     scopes: &mut Scopes,
     binding: &Box<Binding>,
 ) -> Result<Typed, FrontFault>
-    requires value { IsSource (value_in binding.now.value) }
-    requires written { MayBeWritten (type_in binding.now.value) }
+    requires value { IsSource (value_of_binding binding.now.value) }
+    requires written { MayBeWritten (type_of_binding binding.now.value) }
     ensures answer { Answers result typed_of (work_of progress.new)
-        (bound_value (type_in binding.now.value) (value_in binding.now.value) scopes.old (work_of progress.old)) }
+        (bound_value (type_of_binding binding.now.value) (value_of_binding binding.now.value) scopes.old
+        (work_of progress.old)) }
     ensures scopes { OnOk result (scopes.new ≡ scopes.old) }
     ensures grows { OnOk result (Grows progress.old.types progress.new.types) }
 {

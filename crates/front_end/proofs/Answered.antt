@@ -9,7 +9,6 @@ use Rattle.sexpr_reader.specs.Grammar.{Reads}
 use Rattle.form_table.specs.Marked.{all_marked}
 use Rattle.surface_trees.specs.Trees.{Expr}
 use Rattle.form_table.specs.Programs.{AreExpr}
-use Rattle.cast_insert.specs.declared.insertion.Elab.{Elab}
 use Rattle.cast_rules.specs.Elaboration.{elaborate_program}
 use Rattle.cast_insert.specs.Outcomes.{Outcome, outcome_of, Inserts}
 use Rattle.front_end.specs.Texts.{ReadsAs, ElaboratesTo, IsFault}

@@ -1,6 +1,6 @@
 -- The reader's own types as plain data, for the contracts of its private functions.
 use Rattle.surface_syntax.specs.declared.type_forms.Signature.{Signature as RustSignature}
-use Rattle.std.specs.Prelude.{ℕ, ℤ, pos, Bool, List, [], ◌∷◌, Option, Some, None}
+use Rattle.std.specs.Prelude.{ℕ, ℤ, pos, List, [], ◌∷◌, Some, None}
 use Rattle.std.specs.Global.{Box}
 use Rattle.grift_base.specs.declared.places.Pos.{Pos}
 use Rattle.grift_base.specs.declared.refusals.RefusalKind.TheVariants.{BadForm}
@@ -13,14 +13,12 @@ use Rattle.derived_forms.specs.declared.loops.Range.{Range as RustRange}
 use Rattle.surface_trees.specs.declared.exprs.Expr.{Expr as RustExpr}
 use Rattle.surface_trees.specs.declared.exprs.Binding.{Binding as RustBinding}
 use Rattle.surface_trees.specs.declared.exprs.Member.{Member as RustMember}
-use Rattle.surface_trees.specs.declared.names.Ident.{Ident}
 use Rattle.form_table.specs.declared.words.Word.TheVariants.{Colon}
 use Rattle.form_table.specs.Marked.{Sexpr, Sexprs, number, word, name, end, ◌▹◌, place}
 use Rattle.surface_trees.specs.Trees.{TypeExpr, TypeAt, FunType, TupleType, RefType, VectType, Expr, ExprAt, CallNode}
 use Rattle.surface_trees.specs.Trees.{LambdaExpr, LambdaAt, Exprs, ExprThen, LetBindings, LetThen, LetrecMembers}
 use Rattle.surface_trees.specs.Trees.{LetrecThen, Param}
 use Rattle.form_table.specs.Walk.{Signature, Bound, walk_type, walk_only, walk_types, walk_signature}
-use Rattle.derived_forms.specs.Expansion.{chain_of}
 use Rattle.form_table.specs.Walking.{Walked, Reads, Refuses, followed_by, test, some, is_arrow, binder, colon}
 use Rattle.form_table.specs.Pass.{Parsing, ParsedRange, ◌>>=◌, give, refuse, plain, parse, parse_each}
 use Rattle.form_table.specs.Pass.{parse_within}

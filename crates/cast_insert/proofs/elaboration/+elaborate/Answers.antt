@@ -7,8 +7,8 @@ use Rattle.surface_trees.specs.Trees.{LambdaExpr, LetrecMembers, TypeExpr, Expr,
 use Rattle.surface_trees.specs.Trees.{LetThen, LetrecThen, AscribeNode, CallNode, LetNode, LetrecNode, BeginNode}
 use Rattle.surface_trees.specs.Trees.{PrimNode, TupleNode}
 use Rattle.cast_insert.specs.declared.heads.Head.{Head as RustHead}
-use Rattle.cast_insert.specs.Bodies.{body_of, bound_name_in, bound_of, bound_value}
-use Rattle.cast_insert.specs.Bodies.{gathered_of, sequence_of, type_in, value_in}
+use Rattle.cast_insert.specs.Bodies.{body_of, bound_of, bound_value}
+use Rattle.cast_insert.specs.Bodies.{gathered_of, sequence_of}
 use Rattle.cast_rules.specs.Elaboration.{Bound, MemberBody, Operands, Sequence, elaborate_bindings, elaborate_member}
 use Rattle.cast_rules.specs.Elaboration.{elaborate_members, elaborate, elaborate_sequence, elaborate_node}
 use Rattle.cast_rules.specs.Elaboration.{elaborate_each, elaborate_operands}
@@ -50,6 +50,7 @@ use Rattle.surface_trees.specs.declared.exprs.LambdaExpr.{the_lemmas as lambda_l
 use Rattle.insert_steps.specs.declared.operands.Operand.TheVariants.{Int as IntOperand}
 use Rattle.cast_rules.specs.Room.{AreParts}
 use Rattle.surface_trees.specs.declared.exprs.Expr.{the_lemmas as expr_lemmas}
+use Rattle.surface_trees.specs.Views.{name_of_binding, type_of_binding, value_of_binding}
 use Rattle.cast_insert.proofs.elaboration.+elaborate.Goals as goal
 use Rattle.insert_steps.specs.Onto.{bindings_onto, members_onto, terms_onto}
 use Rattle.insert_steps.proofs.Public.{failed_as, failed_first, first_split, made_first, made_then}
@@ -114,22 +115,22 @@ in_order-loop-left-preserved t c =
 pub bindings-loop-left-preserved : goal.bindings-loop-left-preserved
 bindings-loop-left-preserved t c =
     let binding = c.in-Cons.first.value in
-    let value = value_in binding in
+    let value = value_of_binding binding in
     let names = c.loop-left.names.items in
     let variable = c.in_ok-variable.variable.0 in
     let bound = typed_of c.in_ok-bound.bound in
     let named : env_of c.push.new.names.items
-    ≡ env_of names ++ (bound_name_in binding, plain (place_of value) variable bound.type) ∷ [] =
+    ≡ env_of names ++ (name_of_binding binding, plain (place_of value) variable bound.type) ∷ [] =
     ap env_of c.in_ok-push.ensures
     ∙ map-append (λ (n : Named). (n.name, meaning_seen n.meaning)) names (c.in_ok-named.named ∷ [])
     ∙ ap (λ entries. env_of names ++ entries) c.in_ok-named.ensures in
-    let step = bindings_more (binding_list (bindings_of c.loop-left.done)) (env_of names) (bound_name_in binding)
-    (type_in binding) value (lets_of c.in-Cons.rest.value) c.args.scopes.now bound variable
+    let step = bindings_more (binding_list (bindings_of c.loop-left.done)) (env_of names) (name_of_binding binding)
+    (type_of_binding binding) value (lets_of c.in-Cons.rest.value) c.args.scopes.now bound variable
     (work_of c.loop-left.progress) (work_of c.bound_value.new.progress) (work_of c.fresh.new.self) _
     (rw c.loop-left.invariant.scopes at c.in_ok-bound.ensures.answer)
     c.in_ok-variable.ensures.made
     (rw c.in-Cons.is at c.loop-left.invariant.made) in
-    let source : AreSourceBindings (LetThen (bound_name_in binding) (type_in binding) value
+    let source : AreSourceBindings (LetThen (name_of_binding binding) (type_of_binding binding) value
     (lets_of c.in-Cons.rest.value)) = (rw c.in-Cons.is at c.loop-left.invariant.source) in
     record {
       made = rw (c.in_ok-push_binding.ensures, named, c.deref-left.ensures) step;
@@ -658,11 +659,12 @@ body-returns-clause-scopes t c =
 pub bindings-returns-in_err-bound-clause-answer : goal.bindings-returns-in_err-bound-clause-answer
 bindings-returns-in_err-bound-clause-answer t c =
     let binding = c.in-Cons.first.value in
-    failed_as c.in_err-bound.field-0.0 typed_of bound_of _ _ (bound_value (type_in binding) (value_in binding)
+    failed_as c.in_err-bound.field-0.0 typed_of bound_of _ _
+    (bound_value (type_of_binding binding) (value_of_binding binding)
     c.args.scopes.now (work_of c.loop-left.progress)) _ (search rules)
     (rw c.loop-left.invariant.scopes at c.in_err-bound.ensures.answer)
     (λ kind place last refused. bindings_refused (binding_list (bindings_of c.loop-left.done))
-    (env_of c.loop-left.names.items) (bound_name_in binding) (type_in binding) (value_in binding)
+    (env_of c.loop-left.names.items) (name_of_binding binding) (type_of_binding binding) (value_of_binding binding)
     (lets_of c.in-Cons.rest.value) c.args.scopes.now (work_of c.loop-left.progress) _ kind place last refused
     (rw c.in-Cons.is at c.loop-left.invariant.made))
 
@@ -1104,7 +1106,8 @@ bindings-returns-clause-answer t c =
 pub bindings-bound_value-requires : goal.bindings-bound_value-requires
 bindings-bound_value-requires t c =
     let binding = c.in-Cons.first.value in
-    let source : AreSourceBindings (LetThen (bound_name_in binding) (type_in binding) (value_in binding)
+    let source : AreSourceBindings
+    (LetThen (name_of_binding binding) (type_of_binding binding) (value_of_binding binding)
     (lets_of c.in-Cons.rest.value)) = (rw c.in-Cons.is at c.loop-left.invariant.source) in
     (search (rules, binding_lemmas, c.decreases, c.loop-left.invariant.smaller), (source.0, source.1))
 
