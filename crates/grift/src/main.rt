@@ -1,9 +1,9 @@
 // The program: it compiles a file and runs it.
 #![tactic(auto)]
 
+use command_words::commands::image_name;
 use grift_base::lists::OutOfMemory;
 use grift_base::sinks::{DropSink, Sink};
-use grift_cli::commands::image_name;
 use grift_cli::top::{grift, put_want_of_memory};
 use host_files::shelf::FileShelf;
 use host_files::sinks::{ErrSink, FileSink, OutSink};

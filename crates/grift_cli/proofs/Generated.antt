@@ -22,7 +22,7 @@ use Rattle.compile_driver.specs.Bounds.{KeepsAccount}
 use Rattle.compile_driver.specs.Compiling.{FollowsProgram, HasProgram, IsTold, program_of}
 use Rattle.compile_driver.specs.declared.compiling.Compiled.{Compiled}
 use Rattle.grift_gen.specs.Family.{family_text}
-use Rattle.grift_cli.specs.Commands.{default_limits}
+use Rattle.command_words.specs.Commands.{default_limits}
 use Rattle.grift_cli.specs.Generating.{Generates, IsGenerated, PutsNumbers, numbers_text}
 use Rattle.grift_cli.specs.Reporting.{source_report}
 use Rattle.grift_cli.specs.declared.reports.Report.{Report}

@@ -1,7 +1,3 @@
-mod ReadingNumbers
-mod ReadingOptions
-mod ReadingLimits
-mod ReadingCommands
 mod Putting
 mod Stopping
 mod Loading

@@ -13,14 +13,14 @@ use Rattle.rv_machine.specs.Start.{start_of, fresh_world}
 use Rattle.rv_machine.specs.Mach.{moment_of}
 use Rattle.machine_words.specs.declared.faults.MachineFault.{MachineFault}
 use Rattle.rv_machine.proofs.Public.{run_is_its_turns-states}
-use Rattle.grift_cli.specs.Commands.{default_limits}
+use Rattle.command_words.specs.Commands.{default_limits}
 use Rattle.grift_cli.specs.Generating.{PutsNumbers}
 use Rattle.grift_cli.specs.Runs.{run_within, printed, fault_of_run}
 use Rattle.grift_cli.specs.Reporting.{PutsLine, Fails, Lacks, fault_status}
 use Rattle.grift_cli.specs.Running.{RunsWell, PutsAll, TellsRun, StopsShort, Executes, Runs, RunsInSpace}
 use Rattle.grift_cli.specs.Spaces.{ReportsSpace, in_space}
 use Rattle.grift_cli.specs.declared.reports.Space.{Space}
-use Rattle.grift_cli.specs.declared.commands.Limits.{Limits}
+use Rattle.command_words.specs.declared.commands.Limits.{Limits}
 use Rattle.grift_cli.specs.declared.reports.Report.{Report}
 use Rattle.grift_cli.specs.declared.reports.Report.TheVariants.{HasVerdict, HasFault, PutFailed, NoMemory}
 

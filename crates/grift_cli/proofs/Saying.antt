@@ -45,7 +45,7 @@ use Rattle.grift_cli.specs.Calls.{CallSeen, PutsNothing, File, AreLoaded, AsksNo
 use Rattle.grift_cli.specs.Calls.{file_of, input_of, source_file}
 use Rattle.grift_cli.specs.Auditing.{IsAuditFile, IsNeverBlamed, PutsAudit}
 use Rattle.grift_cli.specs.Checking.{ElaboratesFile, HasElaboration, PutsLines, checked_text}
-use Rattle.grift_cli.specs.Commands.{Command, Run, Exec, Check, Audit, Casts, Model, IsCommand, IsGen}
+use Rattle.command_words.specs.Commands.{Command, Run, Exec, Check, Audit, Casts, Model, IsCommand, IsGen}
 use Rattle.grift_cli.specs.Generating.{Generates, HasGenerated}
 use Rattle.grift_cli.specs.Listing.{IsImageOf, IsShownFile, PutsShown, Shows, command_by, seen_by}
 use Rattle.grift_cli.specs.Modelling.{IsModelFile, Models}
@@ -56,7 +56,7 @@ use Rattle.grift_cli.specs.Runs.{run_within, printed, verdict_of_run, HasEndedBy
 use Rattle.grift_cli.specs.Spaces.{ReportsSpace}
 use Rattle.grift_cli.specs.declared.aspects.Aspect.{Aspect}
 use Rattle.grift_cli.specs.declared.aspects.Aspect.TheVariants.{Summary, SafeLabels, Coercions}
-use Rattle.grift_cli.specs.declared.commands.Limits.{Limits}
+use Rattle.command_words.specs.declared.commands.Limits.{Limits}
 use Rattle.grift_cli.specs.declared.listings.View.{View}
 use Rattle.grift_cli.specs.declared.listings.View.TheVariants.{Listing, Bytes}
 use Rattle.grift_cli.specs.declared.reports.BadImage.{BadImage}

@@ -21,7 +21,7 @@ use Rattle.object_layout.proofs.Public.{a_range_is_one_row, fills_few}
 use Rattle.compile_driver.specs.Space.{KeepsSpace, KeepsStorage, told_by}
 use Rattle.grift_cli.specs.Runs.{run_within}
 use Rattle.grift_cli.specs.Spaces.{IsFilled, ReportsSpace}
-use Rattle.grift_cli.specs.declared.commands.Limits.{Limits}
+use Rattle.command_words.specs.declared.commands.Limits.{Limits}
 
 -- ---- rows
 

@@ -15,7 +15,7 @@ use Rattle.rv_emulator.specs.Blocks.{StopsInBlocks}
 use Rattle.grift_cli.specs.Runs.{run_within, printed, printed_after}
 use Rattle.grift_cli.specs.Outcome.{OutputFails, OutputStops}
 use Rattle.grift_cli.specs.Running.{TellsRun, TellsStop}
-use Rattle.grift_cli.specs.declared.commands.Limits.{Limits}
+use Rattle.command_words.specs.declared.commands.Limits.{Limits}
 use Rattle.grift_cli.specs.declared.reports.Report.{Report}
 
 -- the run within the limits has come to this state, but that its output was put; and the report tells it

@@ -8,7 +8,7 @@ use Rattle.blame_audit.specs.Claims.{program_over}
 use Rattle.listing.specs.CastLines.{cast_listing}
 use Rattle.grift_cli.specs.Auditing.{PutsAudit}
 use Rattle.grift_cli.specs.Checking.{PutsLines, checked_text}
-use Rattle.grift_cli.specs.Commands.{Command, Check, Audit, Casts}
+use Rattle.command_words.specs.Commands.{Command, Check, Audit, Casts}
 use Rattle.grift_cli.specs.Listing.{PutsShown}
 use Rattle.grift_cli.specs.declared.aspects.Aspect.{Aspect}
 use Rattle.grift_cli.specs.declared.aspects.Aspect.TheVariants.{Summary, SafeLabels, Coercions}

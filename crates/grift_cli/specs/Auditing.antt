@@ -14,7 +14,7 @@ use Rattle.compile_driver.specs.Compiling.{FollowsProgram}
 use Rattle.blame_audit.specs.Claims.{NeverTellsBlame}
 use Rattle.blame_audit.specs.SafeLabels.{safe_labels}
 use Rattle.blame_audit.specs.Texts.{audit_lines}
-use Rattle.grift_cli.specs.Commands.{Audit}
+use Rattle.command_words.specs.Commands.{Audit}
 use Rattle.grift_cli.specs.Calls.{CallSeen, HasLoaded}
 use Rattle.grift_cli.specs.declared.reports.Report.{Report}
 use Rattle.grift_cli.specs.declared.reports.Report.TheVariants.{Audited, PutFailed, NoMemory}

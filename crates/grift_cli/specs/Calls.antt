@@ -7,8 +7,8 @@ use Rattle.grift_base.specs.Sink.{SinkSeen, Untouched}
 use Rattle.grift_base.specs.Sizes.{source_limit, image_limit, input_limit}
 use Rattle.grift_base.specs.declared.shelves.LoadFault.{LoadFault}
 use Rattle.grift_base.specs.declared.shelves.LoadFault.TheVariants.{Failed, TooLong, OutOfMemory}
-use Rattle.grift_cli.specs.Commands.{Command, Run, Exec, Check, Audit, Casts, Code, ImageOf, Model, Gen}
-use Rattle.grift_cli.specs.Commands.{IsCommand, AreNoCommand}
+use Rattle.command_words.specs.Commands.{Command, Run, Exec, Check, Audit, Casts, Code, ImageOf, Model, Gen}
+use Rattle.command_words.specs.Commands.{IsCommand, AreNoCommand}
 use Rattle.grift_cli.specs.declared.loads.Loaded.{Loaded}
 
 -- its words, and what is seen of the shelf and of the sinks for output and image

@@ -9,7 +9,7 @@ use Rattle.core_calc.specs.Terms.{Term}
 use Rattle.cast_rules.specs.Making.{Entry}
 use Rattle.cast_insert.specs.Outcomes.{Elaborates}
 use Rattle.front_end.specs.Texts.{HasOutcome}
-use Rattle.grift_cli.specs.Commands.{Check}
+use Rattle.command_words.specs.Commands.{Check}
 use Rattle.grift_cli.specs.Calls.{CallSeen, HasLoaded}
 use Rattle.grift_cli.specs.declared.reports.Report.{Report}
 use Rattle.grift_cli.specs.declared.reports.Report.TheVariants.{Checked, PutFailed, NoMemory}

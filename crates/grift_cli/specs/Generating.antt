@@ -6,7 +6,7 @@ use Rattle.surface_trees.specs.Trees.{Expr}
 use Rattle.cast_insert.specs.Outcomes.{IsRefused}
 use Rattle.front_end.specs.Texts.{HasOutcome, IsProgramOf}
 use Rattle.grift_gen.specs.Family.{family_text}
-use Rattle.grift_cli.specs.Commands.{IsGen, default_limits}
+use Rattle.command_words.specs.Commands.{IsGen, default_limits}
 use Rattle.grift_cli.specs.Calls.{CallSeen, AsksNothing}
 use Rattle.grift_cli.specs.Lines.{number_line}
 use Rattle.grift_cli.specs.Listing.{IsImageOf}

@@ -1,7 +1,5 @@
 pub mod Runs
 pub mod Spaces
-pub mod Commands
-pub mod ReadCommands
 pub mod Answers
 pub mod Calls
 pub mod Checking

@@ -7,7 +7,7 @@ use Rattle.compile_driver.specs.Bounds.{KeepsAccount}
 use Rattle.compile_driver.specs.Compiling.{HasProgram, FollowsProgram}
 use Rattle.listing.specs.CastLines.{cast_listing}
 use Rattle.listing.specs.CodeLines.{code_listing}
-use Rattle.grift_cli.specs.Commands.{Command, Casts, Code, ImageOf}
+use Rattle.command_words.specs.Commands.{Command, Casts, Code, ImageOf}
 use Rattle.grift_cli.specs.Calls.{CallSeen, HasLoaded}
 use Rattle.grift_cli.specs.Checking.{HasElaboration}
 use Rattle.grift_cli.specs.declared.listings.View.{View}

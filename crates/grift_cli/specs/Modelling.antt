@@ -9,7 +9,7 @@ use Rattle.core_calc.specs.Typing.{ProgramTermHasType}
 use Rattle.cast_rules.specs.Making.{Entry}
 use Rattle.cast_insert.specs.Outcomes.{Elaborates}
 use Rattle.front_end.specs.Texts.{HasOutcome}
-use Rattle.grift_cli.specs.Commands.{Model}
+use Rattle.command_words.specs.Commands.{Model}
 use Rattle.grift_cli.specs.Calls.{CallSeen, HasLoaded}
 use Rattle.grift_cli.specs.declared.reports.Report.{Report}
 use Rattle.grift_cli.specs.declared.reports.Report.TheVariants.{HasVerdict, PutFailed, NoMemory}

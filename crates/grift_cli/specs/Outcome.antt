@@ -14,7 +14,7 @@ use Rattle.compile_driver.specs.Compiling.{HasProgram, FollowsProgram, tallest_i
 use Rattle.compile_driver.specs.Space.{KeepsSpace}
 use Rattle.grift_cli.specs.Runs.{run_within, printed, printed_after, verdict_of_run, fault_of_run, ComesTo}
 use Rattle.grift_cli.specs.Spaces.{ReportsSpace}
-use Rattle.grift_cli.specs.Commands.{Command, Run, Exec, Gen}
+use Rattle.command_words.specs.Commands.{Command, Run, Exec, Gen}
 use Rattle.grift_cli.specs.Calls.{CallSeen, PutsNothing, HasLoaded, HasNoCommand, HasNoFile, HasLongFile, LacksFile}
 use Rattle.grift_cli.specs.Auditing.{HasAudited, FailsToPutAudit}
 use Rattle.grift_cli.specs.Checking.{HasChecked, FailsToPutLines}
@@ -22,7 +22,7 @@ use Rattle.grift_cli.specs.Generating.{HasGenerated}
 use Rattle.grift_cli.specs.Listing.{HasShown, FailsToShow}
 use Rattle.grift_cli.specs.Modelling.{HasModelled, FailsToPutModel}
 use Rattle.grift_cli.specs.Answers.{image_fault}
-use Rattle.grift_cli.specs.declared.commands.Limits.{Limits}
+use Rattle.command_words.specs.declared.commands.Limits.{Limits}
 use Rattle.grift_cli.specs.declared.reports.BadImage.{BadImage}
 use Rattle.grift_cli.specs.declared.reports.Report.{Report}
 use Rattle.grift_cli.specs.declared.reports.Report.TheVariants.{HasVerdict, HasFault, Checked, Refused, ImageRefused}

@@ -10,7 +10,7 @@ use Rattle.rv_emulator.specs.Turns.{Outcome, Halts, Spent, NoMemory as WantsMemo
 use Rattle.grift_cli.specs.Runs.{run_within, printed, verdict_of_run, fault_of_run}
 use Rattle.grift_cli.specs.Spaces.{ReportsSpace}
 use Rattle.grift_cli.specs.Outcome.{ImageFails, OutputFails, OutputStops}
-use Rattle.grift_cli.specs.declared.commands.Limits.{Limits}
+use Rattle.command_words.specs.declared.commands.Limits.{Limits}
 use Rattle.grift_cli.specs.declared.reports.Report.{Report}
 use Rattle.grift_cli.specs.declared.reports.Report.TheVariants.{HasVerdict, HasSpace, HasFault, PutFailed, NoMemory}
 

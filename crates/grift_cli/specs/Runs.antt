@@ -9,7 +9,7 @@ use Rattle.rv_machine.specs.Start.{start_of, fresh_world}
 use Rattle.rv_machine.specs.Mach.{run_of}
 use Rattle.machine_words.specs.declared.faults.MachineFault.{MachineFault}
 use Rattle.core_calc.specs.Calculus.{Program, calc}
-use Rattle.grift_cli.specs.declared.commands.Limits.{Limits}
+use Rattle.command_words.specs.declared.commands.Limits.{Limits}
 
 -- the run within the limits on this input: the state, and the stop if there was one
 abbrev pub run_within : Limits → List ℕ → List ℕ → State × Option Halt

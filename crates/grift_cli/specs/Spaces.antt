@@ -8,7 +8,7 @@ use Rattle.object_layout.specs.Reports.{IsReported}
 use Rattle.object_layout.specs.Wholes.{IsRow}
 use Rattle.compile_driver.specs.Space.{told_by}
 use Rattle.grift_cli.specs.Runs.{run_within}
-use Rattle.grift_cli.specs.declared.commands.Limits.{Limits}
+use Rattle.command_words.specs.declared.commands.Limits.{Limits}
 use Rattle.grift_cli.specs.declared.reports.Report.{Report}
 use Rattle.grift_cli.specs.declared.reports.Report.TheVariants.{HasVerdict, HasSpace}
 use Rattle.grift_cli.specs.declared.reports.Space.{Space}

@@ -3,15 +3,15 @@
 ghost use Rattle.std.specs.Prelude.{◌≡◌, ◌++◌, [], IfOk, IfSome, OnOk, length};
 ghost use Rattle.grift_base.specs.Sink.{sink_seen};
 ghost use Rattle.insert_steps.specs.Views.{entries_of};
-ghost use Rattle.grift_cli.specs.Commands.{IsFamilyNumber, default_limits};
+ghost use Rattle.command_words.specs.Commands.{IsFamilyNumber, default_limits};
 ghost use Rattle.grift_cli.specs.Generating.{Generates, PutsNumbers, numbers_text};
 ghost use Rattle.grift_cli.specs.Running.{RunsWell, TellsRun};
 ghost use Rattle.grift_cli.specs.Runs.{run_within, printed};
 
-use crate::commands::default_limits;
 use crate::reports::{Report, push_number, report_of_source};
 use crate::runner::{report_of, run_putting};
 use assembler::image::Image;
+use command_words::commands::default_limits;
 use compile_driver::compiling::{Compiled, compile};
 use grift_base::lists::{Bytes, CallList, OutOfMemory, Text};
 use grift_base::sinks::{MemSink, Sink};

@@ -4,7 +4,6 @@
 mod aspects;
 mod audits;
 mod checks;
-pub mod commands;
 mod generator;
 mod listings;
 mod loads;

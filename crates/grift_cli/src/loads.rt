@@ -3,7 +3,7 @@
 ghost use Rattle.std.specs.Prelude.{◌≡◌};
 ghost use Rattle.grift_base.specs.Shelf.{shelf_seen};
 ghost use Rattle.grift_cli.specs.Calls.{LoadsFiles, input_file};
-ghost use Rattle.grift_cli.specs.ReadCommands.{name_bytes};
+ghost use Rattle.command_words.specs.ReadCommands.{name_bytes};
 
 use grift_base::lists::Bytes;
 use grift_base::shelves::{LoadFault, Shelf};

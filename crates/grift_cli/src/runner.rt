@@ -10,9 +10,9 @@ ghost use Rattle.grift_cli.specs.Runs.{run_within, printed};
 ghost use Rattle.grift_cli.specs.Running.{RunsWell, TellsRun, TellsStop, PutsAll, sink_report};
 ghost use Rattle.grift_cli.specs.Running.{StopsShort, Executes, Runs};
 
-use crate::commands::Limits;
 use crate::reports::Report;
 use assembler::image::Image;
+use command_words::commands::Limits;
 use grift_base::lists::{Bytes, OutOfMemory};
 use grift_base::sinks::{Sink, SinkFault};
 use grift_base::verdicts::Verdict;

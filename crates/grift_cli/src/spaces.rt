@@ -9,10 +9,10 @@ ghost use Rattle.compile_driver.specs.Space.{KeepsSpace, told_by};
 ghost use Rattle.grift_cli.specs.Running.{RunsWell, RunsInSpace};
 ghost use Rattle.grift_cli.specs.Spaces.{IsFilled, in_space};
 
-use crate::commands::Limits;
 use crate::reports::{Report, Space};
 use crate::runner::{put_all, report_of, run_putting};
 use assembler::image::Image;
+use command_words::commands::Limits;
 use compile_driver::compiling::Compiled;
 use grift_base::lists::Bytes;
 use grift_base::sinks::Sink;

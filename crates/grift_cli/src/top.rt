@@ -5,14 +5,13 @@ ghost use Rattle.grift_base.specs.Shelf.{shelf_seen};
 ghost use Rattle.grift_base.specs.Sink.{SinkSeen, Untouched, sink_seen};
 ghost use Rattle.rv_machine.specs.Start.{IsRegionSize, IsStackSize};
 ghost use Rattle.grift_cli.specs.Aspects.{command_about};
-ghost use Rattle.grift_cli.specs.Commands.{IsRun, IsExec, IsModel, IsCommand};
+ghost use Rattle.command_words.specs.Commands.{IsRun, IsExec, IsModel, IsCommand};
 ghost use Rattle.grift_cli.specs.Listing.{command_by};
 ghost use Rattle.grift_cli.specs.Outcome.{Says};
-ghost use Rattle.grift_cli.specs.ReadCommands.{name_bytes};
+ghost use Rattle.command_words.specs.ReadCommands.{name_bytes};
 ghost use Rattle.grift_cli.specs.Reporting.{PutsLine, PutsReport, IsAnswered, report_line, report_status};
 
 use crate::aspects::{Aspect, put_aspect};
-use crate::commands::{Command, Limits, read_words};
 use crate::generator::generate;
 use crate::listings::{View, put_view};
 use crate::loads::{Loaded, load_files};
@@ -23,6 +22,7 @@ use crate::reports::{
 use crate::runner::{exec_image, run_image};
 use crate::spaces::run_in_space;
 use assembler::image::read_image;
+use command_words::commands::{Command, Limits, read_words};
 use compile_driver::compiling::compile;
 use front_end::elaborate_text;
 use grift_base::shelves::Shelf;

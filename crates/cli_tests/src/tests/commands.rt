@@ -1,7 +1,7 @@
 // Which words are which command. Words that are none stand among the calls.
 
 use crate::tests::words::words_of;
-use grift_cli::commands::{Command, image_name, read_words};
+use command_words::commands::{Command, image_name, read_words};
 use std::alloc::Global;
 use std::process::Abort;
 

@@ -1,6 +1,6 @@
 use Rattle.std.proofs.Common.{[], length, refl, sym, ap, ◌∙◌}
 use Rattle.compile_driver.specs.Compiling.{program_of}
-use Rattle.grift_cli.specs.Commands.{default_limits}
+use Rattle.command_words.specs.Commands.{default_limits}
 use Rattle.grift_cli.proofs.Generated.{default_region, default_stack, generates, generates_fault}
 use Rattle.grift_cli.proofs.Saying.{runs_well}
 use Rattle.grift_cli.proofs.generator.generate.Goals as goal

@@ -4,7 +4,7 @@ use Rattle.std.specs.Borrow.{Bor}
 use Rattle.std.proofs.lemmas.Result.{err_from_is_err_and}
 use Rattle.grift_base.specs.Shelf.{Loads}
 use Rattle.grift_cli.specs.Calls.{input_file}
-use Rattle.grift_cli.specs.ReadCommands.{name_bytes}
+use Rattle.command_words.specs.ReadCommands.{name_bytes}
 use Rattle.grift_cli.proofs.Loading.{file_fails, input_fails}
 use Rattle.grift_cli.proofs.loads.load_files.Goals as goal
 

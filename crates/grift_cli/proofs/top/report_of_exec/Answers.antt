@@ -1,7 +1,7 @@
 use Rattle.std.proofs.Common.{refl, ◌∙◌, subst}
 use Rattle.rv_machine.specs.Image.{IsImage}
-use Rattle.grift_cli.specs.Commands.{Exec}
-use Rattle.grift_cli.specs.ReadCommands.{name_bytes}
+use Rattle.command_words.specs.Commands.{Exec}
+use Rattle.command_words.specs.ReadCommands.{name_bytes}
 use Rattle.grift_cli.proofs.Saying.{has_loaded, says_load_fault, says_image_fault, says_exec}
 use Rattle.grift_cli.proofs.top.report_of_exec.Goals as goal
 

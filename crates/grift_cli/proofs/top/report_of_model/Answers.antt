@@ -1,8 +1,8 @@
 use Rattle.std.proofs.Common.{refl}
 use Rattle.blame_audit.specs.Claims.{program_over}
 use Rattle.insert_steps.specs.Views.{entries_of}
-use Rattle.grift_cli.specs.Commands.{Model}
-use Rattle.grift_cli.specs.ReadCommands.{name_bytes}
+use Rattle.command_words.specs.Commands.{Model}
+use Rattle.command_words.specs.ReadCommands.{name_bytes}
 use Rattle.grift_cli.proofs.Saying.{has_loaded, says_load_fault, says_model, says_source_fault}
 use Rattle.grift_cli.proofs.top.report_of_model.Goals as goal
 

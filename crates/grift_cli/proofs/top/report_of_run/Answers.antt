@@ -1,7 +1,7 @@
 use Rattle.std.proofs.Common.{false, refl, subst, true}
 use Rattle.compile_driver.specs.Compiling.{program_of}
-use Rattle.grift_cli.specs.Commands.{Command, IsRun, Run}
-use Rattle.grift_cli.specs.ReadCommands.{name_bytes}
+use Rattle.command_words.specs.Commands.{Command, IsRun, Run}
+use Rattle.command_words.specs.ReadCommands.{name_bytes}
 use Rattle.grift_cli.proofs.Saying.{has_loaded, is_compiled, runs_well, says_load_fault, says_run}
 use Rattle.grift_cli.proofs.Saying.{says_run_in_space, says_source_fault}
 use Rattle.grift_cli.proofs.top.report_of_run.Goals as goal

@@ -1,0 +1,4 @@
+mod ReadingNumbers
+mod ReadingOptions
+mod ReadingLimits
+mod ReadingCommands
