@@ -1,5 +1,5 @@
 -- Bodies: names that are left, lists that are turned round, and the first element of one.
-use Rattle.std.proofs.Common.{◌≡◌, ◌-◌, List, length, sym, ap, ◌∙◌}
+use Rattle.std.proofs.Common.{◌≡◌, List, length, sym, ap, ◌∙◌}
 use Rattle.std.specs.Prelude.{drop}
 use Rattle.std.proofs.lemmas.List.{length-map}
 use Rattle.insert_steps.specs.declared.names.Named.{Named}

@@ -512,7 +512,7 @@ the_step_is_that_of_the_redex-through_parts UnitLit = refl
 the_step_is_that_of_the_redex-through_parts (ValueTerm v) = refl
 the_step_is_that_of_the_redex-through_parts (Var name) = refl
 the_step_is_that_of_the_redex-through_parts (Lambda parameters body type) = refl
-the_step_is_that_of_the_redex-through_parts (Group members body) = refl
+the_step_is_that_of_the_redex-through_parts (Group functions body) = refl
 the_step_is_that_of_the_redex-through_parts (Let bindings body) =
     through_parts (bound_values bindings) (first_unevaluated (bound_terms bindings)) (Let bindings body)
     (λ next. Let next body) (focus_bindings bindings) (open_bindings bindings) (among_bindings bindings)

@@ -23,8 +23,9 @@ pub fn copy_names(alloc: Global, names: &VarIds) -> Result<VarIds, OutOfMemory>
     Ok(VarIds::from_slice(alloc, names.as_slice())?)
 }
 
-// Forms of several parts are copied in a function of their own: what a proof costs goes by the calls of a function times
-// its exits. Copies of terms are answered in boxes, since each step that holds a term by value shows all its forms.
+// Forms of several parts are copied in a function of their own: what a proof costs goes by the calls of a function
+// times its exits. Copies of terms are answered in boxes, since each step that holds a term by value shows all its
+// forms.
 
 // A copy of a value, in a box.
 #[cycle(copies)]

@@ -1,5 +1,5 @@
 -- What runs of procedures are counted by: words asked for, turns, active frames and wrap steps.
-use Rattle.std.specs.Prelude.{ℕ, suc, ◌+◌, ◌*◌, List, [], ◌∷◌, length, Option, Some, None}
+use Rattle.std.specs.Prelude.{ℕ, ◌+◌, ◌*◌, List, [], ◌∷◌, length, Option, Some, None}
 use Rattle.run_laws.specs.Runs.{Run}
 use Rattle.run_laws.specs.Reductions.{Reduction, reduction_run}
 use Rattle.grift_base.specs.declared.verdicts.Verdict.{Verdict}

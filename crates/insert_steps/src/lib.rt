@@ -1,5 +1,5 @@
-//! The steps of the elaboration that go into no expression: names, written types, casts, and what is made of parts that are
-//! elaborated.
+//! The steps of the elaboration that go into no expression: names, written types, casts, and what is made of parts
+//! that are elaborated.
 #![tactic(auto)]
 
 pub mod casts;

@@ -1,20 +1,18 @@
 -- What the walk along the brackets refuses is what is refused, and no text is refused twice.
-use Rattle.std.proofs.Common.{◌≡◌, ◌≢◌, ◌⊎◌, inl, inr, ℕ, ◌<◌, ◌≤◌, Bool, true, false, cond, List, [], ◌∷◌, ◌++◌}
+use Rattle.std.proofs.Common.{◌≡◌, ◌≢◌, ◌⊎◌, inl, inr, ◌<◌, ◌≤◌, Bool, true, false, cond, List, [], ◌∷◌, ◌++◌}
 use Rattle.std.proofs.Common.{length, Option, Some, None, refl, ap, ◌∙◌, sym, subst, arith, append_assoc, append-nil}
 use Rattle.std.proofs.Common.{ltb}
-use borrow.Author.Tests.{ltb-true, lt-ltb, ltb-false}
-use Rattle.grift_base.specs.declared.places.Pos.{Pos}
+use borrow.Author.Tests.{ltb-true, ltb-false}
 use Rattle.grift_base.specs.declared.refusals.Refusal.{Refusal as ARefusal}
 use Rattle.grift_base.specs.declared.refusals.RefusalKind.{RefusalKind}
-use Rattle.grift_base.specs.declared.refusals.RefusalKind.TheVariants.{Unclosed, Unopened, TooDeep, Empty}
+use Rattle.grift_base.specs.declared.refusals.RefusalKind.TheVariants.{Unclosed, Unopened, TooDeep}
 use Rattle.sexpr_reader.specs.Datum.{Leaf, integer, truth, symbol, Datums, no_datums, datum_then, leaf_datum}
 use Rattle.sexpr_reader.specs.Datum.{list_datum}
-use Rattle.sexpr_reader.specs.Places.{first_place}
 use Rattle.sexpr_reader.specs.Token.{Token}
 use Rattle.sexpr_reader.specs.Meaning.{alone, meaning}
 use Rattle.sexpr_reader.specs.Grammar.{AreForms, depth_limit}
 use Rattle.sexpr_reader.specs.Reader.{same_shape}
-use Rattle.sexpr_reader.specs.Refused.{AreOpen, HasNoPartner, IsReason, IsTokenRefused, NoneIsRefused, IsOfToken}
+use Rattle.sexpr_reader.specs.Refused.{AreOpen, IsReason, IsTokenRefused, NoneIsRefused, IsOfToken}
 use Rattle.sexpr_reader.specs.Refused.{IsOfOpenBracket, IsOfNothing, AreRefused}
 use Rattle.sexpr_reader.specs.declared.scan.Shape.{Shape}
 use Rattle.sexpr_reader.specs.declared.atoms.Meaning.{Meaning}

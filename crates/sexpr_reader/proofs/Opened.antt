@@ -1,7 +1,6 @@
 -- Which brackets tokens leave open: those that stand between whole s-expressions.
 use Rattle.std.proofs.Common.{◌≡◌, ◌⊎◌, inl, inr, ℕ, zero, suc, Bool, true, false, List, [], ◌∷◌, ◌++◌, refl, ap, ◌∙◌}
 use Rattle.std.proofs.Common.{sym, subst, append_assoc, append-nil}
-use Rattle.grift_base.specs.declared.places.Pos.{Pos}
 use Rattle.sexpr_reader.specs.Datum.{Leaf, integer, truth, symbol, Datum, leaf_datum, list_datum, Datums, no_datums}
 use Rattle.sexpr_reader.specs.Datum.{datum_then}
 use Rattle.sexpr_reader.specs.Token.{Token}

@@ -4,7 +4,7 @@ use Rattle.std.proofs.Common.{Result, Ok, Err, refl, ap, ◌∙◌, sym, ltb}
 use Rattle.grift_base.specs.declared.places.Pos.{Pos}
 use Rattle.grift_base.specs.declared.refusals.Refusal.{Refusal}
 use Rattle.grift_base.specs.declared.refusals.RefusalKind.TheVariants.{Unopened, TooDeep}
-use Rattle.sexpr_reader.specs.Datum.{Leaf, integer, truth, symbol, Datum, leaf_datum, list_datum, Datums}
+use Rattle.sexpr_reader.specs.Datum.{integer, truth, symbol, Datum, leaf_datum, list_datum, Datums}
 use Rattle.sexpr_reader.specs.Token.{Token}
 use Rattle.sexpr_reader.specs.Meaning.{meaning}
 use Rattle.sexpr_reader.specs.Grammar.{depth_limit}

@@ -4,7 +4,6 @@ use Rattle.std.specs.Prelude.{slice_index, codes, bytes_eq, if◌then◌else◌}
 use Rattle.std.specs.Char.{is_ascii_digit}
 use Rattle.std.specs.Str.Parse.{signed_digits_value}
 use Rattle.grift_base.specs.Numbers.{is_integer, fits_in_64_bits}
-use Rattle.grift_base.specs.declared.refusals.RefusalKind.{RefusalKind}
 use Rattle.grift_base.specs.declared.refusals.RefusalKind.TheVariants.{BadByte, NumberRange, NotInProfile}
 use Rattle.sexpr_reader.specs.Datum.{Leaf, integer, truth, symbol}
 use Rattle.sexpr_reader.specs.Token.{Lexeme, open_bracket, close_bracket, atom, hash_atom, quote, other}

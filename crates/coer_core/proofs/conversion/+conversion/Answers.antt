@@ -3,7 +3,7 @@ use Rattle.std.proofs.Common.{◌≡◌, inl, inr, ℕ, List, refl, sym, ap, ap�
 use Rattle.core_calc.specs.declared.terms.Core.{Core}
 use Rattle.core_calc.specs.Terms.{Term, Terms, BoolLit, Var, Lambda, Group, Let, Call, If, Seq, Cast, Tuple, Prim}
 use Rattle.core_calc.specs.Terms.{Enter, UnitLit, ValueTerm}
-use Rattle.core_calc.specs.Views.{bindings_of, members_of, names_of, term_of, terms_of, value_of}
+use Rattle.core_calc.specs.Views.{names_of, term_of, terms_of, value_of}
 use Rattle.coercion_norm.specs.declared.casts.Cast.{Cast as KeyCast}
 use Rattle.cast_modes.specs.Modes.{TypeCast, type_cast}
 use Rattle.coer_core.specs.declared.terms.CoerTerm.{CoerTerm}

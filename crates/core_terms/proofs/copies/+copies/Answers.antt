@@ -182,7 +182,8 @@ copy_members-loop-left-preserved t c = record {
       ∙ member_copied (members_of c.loop-left.done)
       (ap (λ x. (out-GroupMember x).name.0) c.deref-in-Cons-2.ensures)
       (ap names_of c.in_ok-params.ensures ∙ ap (λ x. names_of (out-GroupMember x).params) c.deref.ensures)
-      (ap term_of c.into_inner.ensures ∙ c.in_ok-body.ensures ∙ ap (λ x. term_of (out-GroupMember x).body) c.deref-in-Cons.ensures)
+      (ap term_of c.into_inner.ensures ∙ c.in_ok-body.ensures
+      ∙ ap (λ x. term_of (out-GroupMember x).body) c.deref-in-Cons.ensures)
       (ap (λ x. (out-GroupMember x).ty.0) c.deref-in-Cons-3.ensures)) (ap members_of c.deref-left.ensures)
       ∙ (rw c.in-Cons.is at c.loop-left.invariant.whole);
   smaller = search (rules, members_lemmas);
@@ -194,7 +195,8 @@ copy_bindings-loop-left-preserved t c = record {
       ap₂ bindings_onto (c.in_ok-done.ensures
       ∙ ap₂ (λ (n : ℕ) (x : Term). BindingThen n x (bindings_of c.loop-left.done))
       (ap (λ x. (out-CoreBinding x).name.0) c.deref-in-Cons.ensures)
-      (ap term_of c.into_inner.ensures ∙ c.in_ok-value.ensures ∙ ap (λ x. term_of (out-CoreBinding x).value) c.deref.ensures))
+      (ap term_of c.into_inner.ensures ∙ c.in_ok-value.ensures
+      ∙ ap (λ x. term_of (out-CoreBinding x).value) c.deref.ensures))
       (ap bindings_of c.deref-left.ensures) ∙ (rw c.in-Cons.is at c.loop-left.invariant.whole);
   smaller = search (rules, bindings_lemmas);
 }
