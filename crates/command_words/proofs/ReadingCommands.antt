@@ -2,7 +2,8 @@
 use Rattle.std.proofs.Common.{ℕ, ◌≡◌, ◌⊎◌, List, [], ◌∷◌, ◌++◌, inl, inr, refl, sym, ap, subst, ◌∙◌, arith}
 use Rattle.std.specs.Prelude.{codes, sum, ◌≢◌, Bool, false, MatchOption, Option, Some, None}
 use Rattle.std.specs.Borrow.{Bor}
-use Rattle.command_words.specs.Commands.{AreNoCommand, Command, Run, Exec, Check, Audit, Casts, Code, ImageOf, Model, Gen}
+use Rattle.command_words.specs.Commands.{AreNoCommand, Command, Run, Exec, Check, Audit, Casts, Code, ImageOf, Model}
+use Rattle.command_words.specs.Commands.{Gen}
 use Rattle.command_words.specs.Commands.{IsCommand, IsExec, IsFlag, IsGen, IsModel, IsNameOption, IsOfFile, IsRun}
 use Rattle.command_words.specs.Commands.{number_of}
 use Rattle.command_words.specs.declared.commands.Limits.{Limits}

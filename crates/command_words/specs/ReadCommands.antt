@@ -6,7 +6,8 @@ use Rattle.command_words.specs.Commands.{Command, Run, Exec, Check, Audit, Casts
 use Rattle.command_words.specs.Commands.{IsFlag, IsModelLimit, IsNameOption, IsNumber, IsNumberOption, IsRun}
 use Rattle.command_words.specs.Commands.{IsStepLimit, region_default, stack_default, steps_default}
 use Rattle.command_words.specs.declared.commands.Command.{Command as ReadCommand}
-use Rattle.command_words.specs.declared.commands.Command.TheVariants.{Run as ReadRun, Exec as ReadExec, Check as ReadCheck}
+use Rattle.command_words.specs.declared.commands.Command.TheVariants.{Run as ReadRun, Exec as ReadExec}
+use Rattle.command_words.specs.declared.commands.Command.TheVariants.{Check as ReadCheck}
 use Rattle.command_words.specs.declared.commands.Command.TheVariants.{Audit as ReadAudit, Model as ReadModel}
 use Rattle.command_words.specs.declared.commands.Command.TheVariants.{Casts as ReadCasts, Code as ReadCode}
 use Rattle.command_words.specs.declared.commands.Command.TheVariants.{ImageOf as ReadImageOf, Gen as ReadGen}

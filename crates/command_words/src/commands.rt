@@ -2,10 +2,11 @@
 
 ghost use Rattle.std.specs.Prelude.{ℕ, ◌≡◌, ◌≢◌, ◌≤◌, ◌<◌, ◌%◌, ◌∷◌, [], List, Option, codes, map, string_bytes};
 ghost use Rattle.std.specs.Prelude.{MatchOption};
-ghost use Rattle.command_words.specs.Commands.{Command as WordsCommand, IsNumber, IsCommand, AreNoCommand, default_limits};
-ghost use Rattle.command_words.specs.ReadCommands.{NumberAtFront, NameAtFront, FlagAtFront, LimitsAtFront, StepsAtFront};
-ghost use Rattle.command_words.specs.ReadCommands.{IsWithin, GivesImage, GivesNoImage, HasNoOptions, command_of};
-ghost use Rattle.command_words.specs.ReadCommands.{name_bytes};
+ghost use Rattle.command_words.specs.Commands.{Command as WordsCommand, IsNumber, IsCommand, AreNoCommand};
+ghost use Rattle.command_words.specs.Commands.{default_limits};
+ghost use Rattle.command_words.specs.ReadCommands.{NumberAtFront, NameAtFront, FlagAtFront, LimitsAtFront};
+ghost use Rattle.command_words.specs.ReadCommands.{StepsAtFront, IsWithin, GivesImage, GivesNoImage, HasNoOptions};
+ghost use Rattle.command_words.specs.ReadCommands.{command_of, name_bytes};
 
 // The limits of a run: the greatest that may be told, and what they are where none is told.
 const MOST_REGION: u64 = 1_073_741_824;

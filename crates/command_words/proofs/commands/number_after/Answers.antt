@@ -2,7 +2,8 @@ use Rattle.std.proofs.Common.{map, string_bytes, sym, arith}
 use Rattle.std.specs.Cmp.Lexicographic.{same_text}
 use Rattle.std.proofs.lemmas.Bool.{not-false}
 use Rattle.command_words.specs.ReadCommands.{IsWithin}
-use Rattle.command_words.proofs.ReadingOptions.{an_option, first_word, no_second_word, no_such_number, one_word, two_words}
+use Rattle.command_words.proofs.ReadingOptions.{an_option, first_word, no_second_word, no_such_number, one_word}
+use Rattle.command_words.proofs.ReadingOptions.{two_words}
 use Rattle.command_words.proofs.commands.number_after.Goals as goal
 
 pub returns-in_default-rest : goal.returns-in_default-rest
